@@ -19,20 +19,32 @@ for path, places in edits.items():
         line = text[at - 1]
         new = None
         f = re.search(r"record `[^`]*` has no field `([^`]+)`", said)
+        r = re.search(r"`([^`]+)` is not a field of record", said)
         t = re.search(r"module `[^`]*` has no `([^`]+)` that can be named from here \(did you mean `([^`]+)`\?\)", said)
-        if f and "leave out the `.before`" in said:
+        if f and ("leave out the `.before`" in said or f.group(1) == "before"):
             for k in (line.find(".before", max(0, col - 9)), line.rfind(".before", 0, col + 8)):
                 if k >= 0:
                     new = line[:k] + line[k + len(".before") :]
                     break
+        elif f and f.group(1).isdigit() and "are `" in said:
+            known = re.findall(r"`([^`]+)`", said.split("here are ", 1)[1])
+            k = line.find("." + f.group(1), max(0, col - 3))
+            if k >= 0 and int(f.group(1)) < len(known):
+                new = line[:k] + "." + known[int(f.group(1))] + line[k + 1 + len(f.group(1)) :]
         elif f:
             name = f.group(1)
-            near = re.search(r"\(nearest: \.([^\s,)]+)\)", said)
+            near = re.search(r"\(nearest: \.([^\s,)]+)", said)
             k = line.find("." + name, max(0, col - 2 - len(name)))
             if k >= 0 and re.match(r".*-\d+$", name) and near and near.group(1) == re.sub(r"-\d+$", "", name):
                 new = line[:k] + "." + near.group(1) + line[k + 1 + len(name) :]
+            elif k >= 0 and "." + name.replace("-", "_") in re.findall(r"\.[\w'-]+", said.split("(nearest:", 1)[-1]) and "-" in name:
+                new = line[:k] + "." + name.replace("-", "_") + line[k + 1 + len(name) :]
             elif k >= 0 and near and near.group(1).replace("_", "-").lower().startswith(name.replace("_", "-").lower()):
                 new = line[:k] + "." + near.group(1) + line[k + 1 + len(name) :]
+        elif r and "-" in r.group(1):
+            k = line.find(r.group(1), max(0, col - 1 - len(r.group(1))))
+            if k >= 0:
+                new = line[:k] + r.group(1).replace("-", "_") + line[k + len(r.group(1)) :]
         elif t:
             k = line.find(t.group(1), max(0, col - 1))
             if k >= 0:

@@ -5,5 +5,5 @@ use Rattle.grouped.proofs.checks.in_ranges.Tie as tie
 returns : tie.Need-returns
 returns c = cc
 
-pub in-ranges-spec : {M : Type 1} → statement M
-in-ranges-spec = tie.close (tie.spec (λ c κs. search rules) returns)
+pub in_ranges_spec : {M : Type 1} → statement M
+in_ranges_spec = tie.close (tie.spec (λ c κs. search rules) returns)

@@ -6,7 +6,7 @@ use Rattle.grouped.proofs.checks.two_missing.Tie as tie
 
 returns : tie.Need-returns
 unfolding two_missing
-returns c = rw c.count-missing.ensures refl
+returns c = rw c.count_missing-k.ensures refl
 
-pub two-missing-spec : {M : Type 1} → statement M
-two-missing-spec = tie.close (tie.spec (λ c κs. search rules) returns)
+pub two_missing_spec : {M : Type 1} → statement M
+two_missing_spec = tie.close (tie.spec (λ c κs. search rules) returns)

@@ -8,25 +8,25 @@ use Rattle.grouped.specs.laws.Words.{word}
 use Rattle.grouped.proofs.places.drive_lacks.Statement.{statement}
 use Rattle.grouped.proofs.places.drive_lacks.Tie as tie
 
-abbrev invariant-loop : tie.invariant-loop
+abbrev invariant-loop : tie.invariant-loop-i
 invariant-loop work s d n lacks₀ i₀ lacks i = (i ≤ n) × (n ≡ s.blocks) × (lacks ≡ any_below (λ (k : ℕ). eqb (word work (d * s.blocks + k)) 0) i)
 
-abbrev decreases-loop : tie.decreases-loop
+abbrev decreases-loop : tie.decreases-loop-i
 decreases-loop work s d n lacks₀ i₀ lacks i = n - i
 
-cell-of-requires : tie.Need-cell-of-requires invariant-loop decreases-loop
+cell-of-requires : tie.Need-cell_of-at-requires invariant-loop decreases-loop
 cell-of-requires c κs = let s = c.before.before.before in (s.requires.0, (s.requires.1.0, omega arith))
 
-get-requires : tie.Need-get-requires invariant-loop decreases-loop
-get-requires c κs = let s = c.before.before.before.before in omega (arith, c.cell-of.ensures.1, s.requires.1.1)
+get-requires : tie.Need-get-w-requires invariant-loop decreases-loop
+get-requires c κs = let s = c.before.before.before.before in omega (arith, c.cell_of-at.ensures.1, s.requires.1.1)
 
-loop-again : tie.Need-loop-preserved invariant-loop decreases-loop
-loop-again c = let l = c.before.before.before.loop in (omega arith, refl, rw (l.invariant.2, c.get.ensures.0, c.before.cell-of.ensures.0, add-one) refl)
+loop-again : tie.Need-loop-i-preserved invariant-loop decreases-loop
+loop-again c = let l = c.loop-i in (omega arith, refl, rw (l.invariant.2, c.get-w.ensures.0, c.cell_of-at.ensures.0, add-one) refl)
 
 returns : tie.Need-returns invariant-loop decreases-loop
-returns c = let l = c.before.loop in let e : l.i ≡ c.before.before.before.args.s.blocks = omega arith in l.invariant.2 ∙ rw e refl
+returns c = let l = c.loop-i in let e : l.i ≡ c.args.s.blocks = omega arith in l.invariant.2 ∙ rw e refl
 
-pub drive-lacks-spec : {M : Type 1} → statement M
-drive-lacks-spec =
+pub drive_lacks_spec : {M : Type 1} → statement M
+drive_lacks_spec =
     tie.close
-    (tie.spec invariant-loop decreases-loop (λ c. (omega arith, refl, refl)) cell-of-requires get-requires (λ c. omega (arith, c.before.before.before.before.before.requires.0.blocks_most)) (λ c. omega arith) loop-again returns)
+    (tie.spec invariant-loop decreases-loop (λ c. (omega arith, refl, refl)) cell-of-requires get-requires (λ c. omega (arith, c.requires.0.blocks_most)) (λ c. omega arith) loop-again returns)

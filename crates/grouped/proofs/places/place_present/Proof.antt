@@ -9,7 +9,7 @@ use Rattle.grouped.specs.places.Places.{Noted, noted_drive, noted_missing, lacks
 use Rattle.grouped.proofs.places.place_present.Statement.{statement}
 use Rattle.grouped.proofs.places.place_present.Tie as tie
 
-returns : tie.Need-returns
+returns : tie.Need-returns-then-d-missing
 returns c =
     let s = c.before.before.before in
     let a = s.args in
@@ -17,18 +17,18 @@ returns c =
     let e : a.d ≡ a.missing = omega arith in
     (rw (eq-eqb a.d a.missing e) refl, rw add-one (noted_missing a.s a.metadata.now l.valid l.whole a.d s.requires.1.0 a.missing a.work.now e s.requires.1.1))
 
-returns-2 : tie.Need-returns-2
+returns-2 : tie.Need-returns
 returns-2 c =
-    let s = c.before.before.before.before.before.before.before.before.before in
+    let s = c.before.before.before.before.before.before.before.before in
     let a = s.args in
     let l = s.requires.0 in
-    let f = c.before.before.before.before.place-drive in
+    let f = c.place_drive in
     let ne : a.d ≢ a.missing = omega arith in
-    let o : Noted a.s a.metadata.now a.missing (suc a.d) f.new.1.0 =
+    let o : Noted a.s a.metadata.now a.missing (suc a.d) f.new.work =
     rw f.ensures (noted_drive a.s a.metadata.now l.valid l.whole a.d s.requires.1.0 a.missing a.work.now s.requires.1.1) in (
-      c.drive-lacks.ensures ∙ lacks_wrong a.s a.metadata.now l.valid l.whole a.d s.requires.1.0 a.missing f.new.1.0 ne o ∙ rw (ne_eqb a.d a.missing ne) refl,
+      c.drive_lacks.ensures ∙ lacks_wrong a.s a.metadata.now l.valid l.whole a.d s.requires.1.0 a.missing f.new.work ne o ∙ rw (ne_eqb a.d a.missing ne) refl,
       rw add-one o,
     )
 
-pub place-present-spec : {M : Type 1} → statement M
-place-present-spec = tie.close (tie.spec returns (λ c κs. search rules) (λ c κs. search rules) (λ c. search rules) returns-2)
+pub place_present_spec : {M : Type 1} → statement M
+place_present_spec = tie.close (tie.spec returns (λ c κs. search rules) (λ c κs. search rules) (λ c. search rules) returns-2)

@@ -8,33 +8,33 @@ use borrow.Author.Rules.{rules}
 use Rattle.grouped.proofs.reading.input_refusal.Statement.{statement}
 use Rattle.grouped.proofs.reading.input_refusal.Tie as tie
 
-returns : tie.Need-returns
+returns : tie.Need-returns-then-not-ok
 unfolding numbers_refused
-returns c = rw (sym c.before.valid.ensures ∙ not-true c.before.valid.result c.if1.true) refl
+returns c = rw (sym c.valid-ok.ensures ∙ not-true c.valid-ok.result c.if-not-ok.true-raw) refl
 
-passed : (c : tie.Else1) → is_segment c.before.before.args.s ≡ true
-passed c = sym c.before.valid.ensures ∙ not-false c.before.valid.result c.if1.false
+passed : (c : tie.Else-not-ok) → is_segment c.args.s ≡ true
+passed c = sym c.valid-ok.ensures ∙ not-false c.valid-ok.result c.if-not-ok.false-raw
 
-lengths-fit-requires : tie.Need-lengths-fit-requires
-lengths-fit-requires c κs = valid_if c.before.before.args.s (passed c)
+lengths-fit-requires : tie.Need-lengths_fit-fit-requires
+lengths-fit-requires c κs = valid_if c.args.s (passed c)
 
-returns-2 : tie.Need-returns-2
+returns-2 : tie.Need-returns-then-not-fit
 unfolding numbers_refused
-returns-2 c = rw (passed c.before.before, sym c.before.lengths-fit.ensures ∙ not-true c.before.lengths-fit.result c.if2.true) refl
+returns-2 c = rw (passed c.before.before, sym c.lengths_fit-fit.ensures ∙ not-true c.lengths_fit-fit.result c.if-not-fit.true-raw) refl
 
-fitted : (c : tie.Else2) → ranges_fit c.before.before.before.before.args.s c.before.before.before.before.args.blocks c.before.before.before.before.args.metadata c.before.before.before.before.args.work c.before.before.before.before.args.answer ≡ true
-fitted c = sym c.before.lengths-fit.ensures ∙ not-false c.before.lengths-fit.result c.if2.false
+fitted : (c : tie.Else-not-fit) → ranges_fit c.args.s c.args.blocks c.args.metadata c.args.work c.args.answer ≡ true
+fitted c = sym c.lengths_fit-fit.ensures ∙ not-false c.lengths_fit-fit.result c.if-not-fit.false-raw
 
-two-missing-requires : tie.Need-two-missing-requires
-two-missing-requires c κs = valid_if c.before.before.before.before.args.s (passed c.before.before)
+two-missing-requires : tie.Need-two_missing-two-requires
+two-missing-requires c κs = valid_if c.args.s (passed c.before.before)
 
-returns-3 : tie.Need-returns-3
+returns-3 : tie.Need-returns-then-two
 unfolding numbers_refused
-returns-3 c = rw (passed c.before.before.before.before, fitted c.before.before, sym c.before.two-missing.ensures ∙ c.if3.true) refl
+returns-3 c = rw (passed c.before.before.before.before, fitted c.before.before, sym c.two_missing-two.ensures ∙ c.if-two.true) refl
 
-returns-4 : tie.Need-returns-4
+returns-4 : tie.Need-returns-else-two
 unfolding numbers_refused
-returns-4 c = rw (passed c.before.before.before.before, fitted c.before.before, sym c.before.two-missing.ensures ∙ c.if3.false) refl
+returns-4 c = rw (passed c.before.before.before.before, fitted c.before.before, sym c.two_missing-two.ensures ∙ c.if-two.false) refl
 
-pub input-refusal-spec : {M : Type 1} → statement M
-input-refusal-spec = tie.close (tie.spec (λ c κs. search rules) returns lengths-fit-requires returns-2 two-missing-requires returns-3 returns-4)
+pub input_refusal_spec : {M : Type 1} → statement M
+input_refusal_spec = tie.close (tie.spec (λ c κs. search rules) returns lengths-fit-requires returns-2 two-missing-requires returns-3 returns-4)

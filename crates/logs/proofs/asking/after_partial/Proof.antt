@@ -5,11 +5,11 @@ use borrow.Author.Rules.{rules}
 use Rattle.logs.proofs.asking.after_partial.Statement.{statement}
 use Rattle.logs.proofs.asking.after_partial.Tie as tie
 
-returns-7 : tie.Need-returns-7
-returns-7 c = let a = c.before.before.before.before.args in c.pick.ensures ∙ sym (ap (λ (q : Query). after_partial q a.zone a.end a.generation a.place a.x) c.before.before.query.given.1)
+returns-7 : tie.Need-returns-in-LastPartial
+returns-7 c = let a = c.args in c.pick.ensures ∙ sym (ap (λ (q : Query). after_partial q a.zone a.end a.generation a.place a.x) c.in-LastPartial.is)
 
-pub after-partial-spec : {M : Type 1} → statement M
-after-partial-spec =
+pub after_partial_spec : {M : Type 1} → statement M
+after_partial_spec =
     tie.close
     (tie.spec (λ c. search rules) (λ c. search rules) (λ c. search rules) (λ c. search rules) (λ c. search rules) (λ c. search rules)
     (λ c. search rules) (λ c. search rules) (λ c κs. search rules) (λ c. search rules) (λ c. search rules) (λ c. search rules) (λ c. search rules)

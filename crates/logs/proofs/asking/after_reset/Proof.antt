@@ -5,11 +5,11 @@ use borrow.Author.Rules.{rules}
 use Rattle.logs.proofs.asking.after_reset.Statement.{statement}
 use Rattle.logs.proofs.asking.after_reset.Tie as tie
 
-returns-3 : tie.Need-returns-3
-returns-3 c = let a = c.before.before.before.before.args in c.pick.ensures ∙ sym (ap (λ (q : Query). after_reset q a.zone a.generation a.x) c.before.before.query.given.1)
+returns-3 : tie.Need-returns-in-ResetOf
+returns-3 c = let a = c.args in c.pick.ensures ∙ sym (ap (λ (q : Query). after_reset q a.zone a.generation a.x) c.in-ResetOf.is)
 
-pub after-reset-spec : {M : Type 1} → statement M
-after-reset-spec =
+pub after_reset_spec : {M : Type 1} → statement M
+after_reset_spec =
     tie.close
     (tie.spec (λ c. search rules) (λ c. search rules) (λ c. search rules) (λ c κs. search rules) (λ c. search rules) (λ c. search rules)
     (λ c. search rules) (λ c. search rules) (λ c. search rules) (λ c. search rules) returns-3 (λ c. search rules) (λ c. search rules)

@@ -23,7 +23,7 @@ decreases-walk query sectors g log par first x₀ p₀ x p = log.written - p
 walk-holds : tie.Need-walk-init invariant-walk decreases-walk
 walk-holds c = (omega arith, refl)
 
-next-entry-requires : tie.Need-next-entry-requires invariant-walk decreases-walk
+next-entry-requires : tie.Need-next_entry-step-requires invariant-walk decreases-walk
 next-entry-requires c κs = let s = c.before.before in (s.requires.0, (s.requires.1, c.walk.invariant.0))
 
 abbrev sectorsOf : tie.At-walk invariant-walk decreases-walk → List (List ℕ)
@@ -35,24 +35,24 @@ low : (w : tie.At-walk invariant-walk decreases-walk) → w.walk.p ≤ length (s
 low w = rw length_tabulate w.walk.invariant.0
 
 -- a whole entry was found
-whole : (k : tie.After-known-told invariant-walk decreases-walk) → step_of k.before.before.before.before.before.before.args.g k.before.before.before.before.walk.p (left_at k.before.before.before.before.before.before.args.g k.before.before.before.before.before.before.args.log.drive k.before.before.before.before.before.before.args.parity (sectorsOf k.before.before.before.before) k.before.before.before.before.walk.p) ≡ Whole k.before.step.given.0.0 k.before.step.given.0.1.0
-whole k = sym k.before.before.before.next-entry.ensures ∙ k.before.step.given.1
+whole : (k : tie.In-Whole invariant-walk decreases-walk) → step_of k.args.g k.before.before.walk.p (left_at k.args.g k.args.log.drive k.args.parity (sectorsOf k.before.before) k.before.before.walk.p) ≡ Whole k.in-Whole.f k.in-Whole.q
+whole k = sym k.next_entry-step.ensures ∙ k.in-Whole.is
 
-climbs : (k : tie.After-known-told invariant-walk decreases-walk) → (k.before.before.before.before.walk.p < k.before.step.given.0.1.0) × (k.before.step.given.0.1.0 ≤ k.before.before.before.before.before.before.args.log.written)
+climbs : (k : tie.In-Whole invariant-walk decreases-walk) → (k.before.before.walk.p < k.in-Whole.q) × (k.in-Whole.q ≤ k.args.log.written)
 climbs k =
-    let w = k.before.before.before.before in
-    let a = w.before.before.args in
-    climbs_in_log a.g a.log a.parity a.sectors.now w.walk.p w.walk.invariant.0 k.before.step.given.0.0 k.before.step.given.0.1.0 (whole k)
+    let w = k.before.before in
+    let a = w.args in
+    climbs_in_log a.g a.log a.parity a.sectors.now w.walk.p w.walk.invariant.0 k.in-Whole.f k.in-Whole.q (whole k)
 
-after-found-requires : tie.Need-after-found-requires invariant-walk decreases-walk
+after-found-requires : tie.Need-after_found-x-requires invariant-walk decreases-walk
 after-found-requires c κs =
-    let w = c.before.before.before.before in
+    let w = c.before.before in
     let s = w.before.before in
     let a = s.args in (
       s.requires.0,
       (
         omega (arith, (climbs c).0, (climbs c).1, s.requires.1.short, s.requires.0.zone_most),
-        whole_small a.g a.log.drive a.parity (sectorsOf w) a.query w.walk.p w.walk.x (low w) c.before.step.given.0.0 c.before.step.given.0.1.0 (whole c),
+        whole_small a.g a.log.drive a.parity (sectorsOf w) a.query w.walk.p w.walk.x (low w) c.in-Whole.f c.in-Whole.q (whole c),
       ),
     )
 
@@ -61,20 +61,20 @@ walk-less c = omega (arith, (climbs c.before).0, (climbs c.before).1)
 
 walk-again : tie.Need-walk-preserved invariant-walk decreases-walk
 walk-again c =
-    let w = c.before.before.before.before.before in
-    let a = w.before.before.args in (
+    let w = c.before.before.before in
+    let a = w.args in (
       (climbs c.before).1,
-      rw c.after-found.ensures (sym (answer_whole a.g a.log.drive a.parity (sectorsOf w) a.query w.walk.p w.walk.x (low w) c.before.before.step.given.0.0 c.before.before.step.given.0.1.0 (whole c.before)) ∙ w.walk.invariant.1),
+      rw c.after_found-x.ensures (sym (answer_whole a.g a.log.drive a.parity (sectorsOf w) a.query w.walk.p w.walk.x (low w) c.in-Whole.f c.in-Whole.q (whole c.before)) ∙ w.walk.invariant.1),
     )
 
 returns : tie.Need-returns invariant-walk decreases-walk
 returns c =
-    let w = c.before.before.before in
-    let a = w.before.before.args in
-    sym (answer_left a.g a.log.drive a.parity (sectorsOf w) a.query w.walk.p w.walk.x (low w) c.enum_told.given.0.0 (sym c.before.before.next-entry.ensures ∙ c.enum_told.given.1)) ∙ w.walk.invariant.1
+    let w = c.before.before in
+    let a = w.args in
+    sym (answer_left a.g a.log.drive a.parity (sectorsOf w) a.query w.walk.p w.walk.x (low w) c.in-Left.field-0 (sym c.next_entry-step.ensures ∙ c.in-Left.is)) ∙ w.walk.invariant.1
 
-pub ask-log-spec : {M : Type 1} → statement M
-ask-log-spec =
+pub ask_log_spec : {M : Type 1} → statement M
+ask_log_spec =
     tie.close
     (tie.spec invariant-walk decreases-walk walk-holds next-entry-requires (λ c. search rules) (λ c. search rules) after-found-requires walk-less walk-again
     returns)

@@ -8,8 +8,8 @@ use Rattle.logs.proofs.folds.begins_labelled.Tie as tie
 
 returns : tie.Need-returns
 returns c =
-    let a = c.before.before.before.args in
-    c.is-label.ensures ∙ ap label_seen c.before.first_entry.ensures ∙ labelled-seen (log_heads a.g a.log.drive false a.log.zone a.log.written a.sectors.now)
+    let a = c.args in
+    c.is_label.ensures ∙ ap label_seen c.first_entry-f.ensures ∙ labelled-seen (log_heads a.g a.log.drive false a.log.zone a.log.written a.sectors.now)
 
-pub begins-labelled-spec : {M : Type 1} → statement M
-begins-labelled-spec = tie.close (tie.spec (λ c κs. search rules) (λ c κs. search rules) returns)
+pub begins_labelled_spec : {M : Type 1} → statement M
+begins_labelled_spec = tie.close (tie.spec (λ c κs. search rules) (λ c κs. search rules) returns)

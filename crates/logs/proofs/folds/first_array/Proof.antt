@@ -8,8 +8,8 @@ use Rattle.logs.proofs.folds.first_array.Tie as tie
 
 returns : tie.Need-returns
 returns c =
-    let a = c.before.before.before.args in
-    c.array_of.ensures ∙ ap array_seen c.before.first_entry.ensures ∙ array_seen_lem (log_heads a.g a.log.drive false a.log.zone a.log.written a.sectors.now)
+    let a = c.args in
+    c.array_of.ensures ∙ ap array_seen c.first_entry-f.ensures ∙ array_seen_lem (log_heads a.g a.log.drive false a.log.zone a.log.written a.sectors.now)
 
-pub first-array-spec : {M : Type 1} → statement M
-first-array-spec = tie.close (tie.spec (λ c κs. search rules) (λ c κs. search rules) returns)
+pub first_array_spec : {M : Type 1} → statement M
+first_array_spec = tie.close (tie.spec (λ c κs. search rules) (λ c κs. search rules) returns)

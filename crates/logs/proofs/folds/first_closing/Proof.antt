@@ -20,20 +20,20 @@ abbrev decreases-walk : tie.decreases-walk
 decreases-walk sectors g log par p₀ p = log.written - p
 
 abbrev sectorsOf : tie.At-walk invariant-walk decreases-walk → List (List ℕ)
-sectorsOf w = let a = w.before.before.args in sectors_of_log a.g a.log a.sectors.now
+sectorsOf w = let a = w.args in sectors_of_log a.g a.log a.sectors.now
 
-abbrev turn : tie.After-known-told invariant-walk decreases-walk → tie.At-walk invariant-walk decreases-walk
-turn k = k.before.before.before.before
+abbrev turn : tie.In-Whole invariant-walk decreases-walk → tie.At-walk invariant-walk decreases-walk
+turn k = k.before.before
 
 -- a whole entry was found
-whole : (k : tie.After-known-told invariant-walk decreases-walk) → step_of (turn k).before.before.args.g (turn k).walk.p (left_at (turn k).before.before.args.g (turn k).before.before.args.log.drive (turn k).before.before.args.parity (sectorsOf (turn k)) (turn k).walk.p) ≡ Whole k.before.step.given.0.0 k.before.step.given.0.1.0
-whole k = sym k.before.before.before.next-entry.ensures ∙ k.before.step.given.1
+whole : (k : tie.In-Whole invariant-walk decreases-walk) → step_of (turn k).args.g (turn k).walk.p (left_at (turn k).args.g (turn k).args.log.drive (turn k).args.parity (sectorsOf (turn k)) (turn k).walk.p) ≡ Whole k.in-Whole.f k.in-Whole.q
+whole k = sym k.next_entry-step.ensures ∙ k.in-Whole.is
 
-climbs : (k : tie.After-known-told invariant-walk decreases-walk) → ((turn k).walk.p < k.before.step.given.0.1.0) × (k.before.step.given.0.1.0 ≤ (turn k).before.before.args.log.written)
+climbs : (k : tie.In-Whole invariant-walk decreases-walk) → ((turn k).walk.p < k.in-Whole.q) × (k.in-Whole.q ≤ (turn k).args.log.written)
 climbs k =
     let w = turn k in
-    let a = w.before.before.args in
-    climbs_in_log a.g a.log a.parity a.sectors.now w.walk.p w.walk.inv.0 k.before.step.given.0.0 k.before.step.given.0.1.0 (whole k)
+    let a = w.args in
+    climbs_in_log a.g a.log a.parity a.sectors.now w.walk.p w.walk.invariant.0 k.in-Whole.f k.in-Whole.q (whole k)
 
 walk-less : tie.Need-walk-smaller invariant-walk decreases-walk
 walk-less c = let k = c.before.before in omega (arith, (climbs k).0, (climbs k).1)
@@ -42,25 +42,25 @@ walk-again : tie.Need-walk-preserved invariant-walk decreases-walk
 walk-again c =
     let k = c.before.before in
     let w = turn k in
-    let a = w.before.before.args in
-    ((climbs k).1, sym (closing_on a.g a.log.drive a.parity (sectorsOf w) w.walk.p (low_in_log a.g a.log a.sectors.now w.walk.p w.walk.inv.0) k.before.step.given.0.0 k.before.step.given.0.1.0 (whole k) (sym c.before.closing-of.ensures ∙ c.if1.false)) ∙ w.walk.inv.1)
+    let a = w.args in
+    ((climbs k).1, sym (closing_on a.g a.log.drive a.parity (sectorsOf w) w.walk.p (low_in_log a.g a.log a.sectors.now w.walk.p w.walk.invariant.0) k.in-Whole.f k.in-Whole.q (whole k) (sym c.closing_of-generation.ensures ∙ c.if-generation-ne0.false)) ∙ w.walk.invariant.1)
 
-returns : tie.Need-returns invariant-walk decreases-walk
+returns : tie.Need-returns-in-Left invariant-walk decreases-walk
 returns c =
-    let w = c.before.before.before in
-    let a = w.before.before.args in
-    sym (closing_left a.g a.log.drive a.parity (sectorsOf w) w.walk.p (low_in_log a.g a.log a.sectors.now w.walk.p w.walk.invariant.0) c.enum_told.given.0.0 (sym c.before.before.next-entry.ensures ∙ c.enum_told.given.1)) ∙ w.walk.invariant.1
+    let w = c.before.before in
+    let a = w.args in
+    sym (closing_left a.g a.log.drive a.parity (sectorsOf w) w.walk.p (low_in_log a.g a.log a.sectors.now w.walk.p w.walk.invariant.0) c.in-Left.field-0 (sym c.next_entry-step.ensures ∙ c.in-Left.is)) ∙ w.walk.invariant.1
 
-returns-2 : tie.Need-returns-2 invariant-walk decreases-walk
+returns-2 : tie.Need-returns-then-generation-ne0 invariant-walk decreases-walk
 returns-2 c =
     let k = c.before.before in
     let w = turn k in
-    let a = w.before.before.args in
-    let e = c.before.closing-of.ensures in
-    e ∙ sym (closing_here a.g a.log.drive a.parity (sectorsOf w) w.walk.p (low_in_log a.g a.log a.sectors.now w.walk.p w.walk.inv.0) k.before.step.given.0.0 k.before.step.given.0.1.0 (whole k) (λ q. c.if1.true (e ∙ q))) ∙ w.walk.inv.1
+    let a = w.args in
+    let e = c.closing_of-generation.ensures in
+    e ∙ sym (closing_here a.g a.log.drive a.parity (sectorsOf w) w.walk.p (low_in_log a.g a.log a.sectors.now w.walk.p w.walk.invariant.0) k.in-Whole.f k.in-Whole.q (whole k) (λ q. c.if-generation-ne0.true (e ∙ q))) ∙ w.walk.invariant.1
 
-pub first-closing-spec : {M : Type 1} → statement M
-first-closing-spec =
+pub first_closing_spec : {M : Type 1} → statement M
+first_closing_spec =
     tie.close
     (tie.spec invariant-walk decreases-walk (λ c. (omega arith, refl)) (λ c κs. let s = c.before.before in (s.requires.0, (s.requires.1, c.walk.invariant.0))) (λ c. search rules) (λ c. search rules) (λ c κs. search rules) walk-less walk-again
     returns returns-2)

@@ -13,12 +13,12 @@ returns : tie.Need-returns
 returns c =
     let s = c.before.before.before.before in
     let a = s.args in
-    let d : c.before.before.byte-at.result + a.g.sector - c.before.before.byte-at.result ≡ a.g.sector = omega arith in
+    let d : c.byte_at-at.result + a.g.sector - c.byte_at-at.result ≡ a.g.sector = omega arith in
     c.read_u64.ensures ∙ ap (λ (t : List ℕ). read_le 8 t (32 + 8 * a.z))
-    (rw (d, c.before.before.byte-at.ensures.0) refl ∙ sym (get_d_tabulate (λ (i : ℕ). sector_no a.g.sector a.sectors.now (cell a.g a.log.drive a.log.zone * a.g.capacity + i)) a.log.written a.p [] s.requires.1.1))
+    (rw (d, c.byte_at-at.ensures.0) refl ∙ sym (get_d_tabulate (λ (i : ℕ). sector_no a.g.sector a.sectors.now (cell a.g a.log.drive a.log.zone * a.g.capacity + i)) a.log.written a.p [] s.requires.1.1))
 
-pub generation-at-spec : {M : Type 1} → statement M
-generation-at-spec =
+pub generation_at_spec : {M : Type 1} → statement M
+generation_at_spec =
     tie.close
     (tie.spec (λ c κs. search rules) (λ c. search rules) (λ c. search rules) (λ c. search rules) (λ c. search rules) (λ c. search rules)
     (λ c. search rules) (λ c κs. search rules) returns)

@@ -19,8 +19,8 @@ returns c =
     let s = c.before.before in
     let a = s.args in
     let e : a.pointer ≡ suc (a.pointer - 1) = omega (arith, s.requires.1.1) in
-    ap (λ (x : ℕ). ltb 0 x) c.last-partial.ensures.0 ∙ ap (λ (y : ℕ). ltb 0 (last_place a.g (ends_within a.g a.z a.generation (a.pointer - 1) y) 0 0 (log_heads a.g a.log.drive true a.log.zone a.log.written a.sectors.now))) e
+    ap (λ (x : ℕ). ltb 0 x) c.last_partial.ensures.0 ∙ ap (λ (y : ℕ). ltb 0 (last_place a.g (ends_within a.g a.z a.generation (a.pointer - 1) y) 0 0 (log_heads a.g a.log.drive true a.log.zone a.log.written a.sectors.now))) e
     ∙ at_by_place a.g a.log.drive true (log_sectors a.g a.log.drive a.log.zone a.sectors.now a.log.written) a.z a.generation (a.pointer - 1) ∙ ap (λ (y : ℕ). any_of (ends_at a.g a.z a.generation y) (log_heads a.g a.log.drive true a.log.zone a.log.written a.sectors.now)) (sym e)
 
-pub has-partial-at-spec : {M : Type 1} → statement M
-has-partial-at-spec = tie.close (tie.spec (λ c. search rules) (λ c κs. search rules) returns)
+pub has_partial_at_spec : {M : Type 1} → statement M
+has_partial_at_spec = tie.close (tie.spec (λ c. search rules) (λ c κs. search rules) returns)

@@ -8,8 +8,8 @@ use Rattle.logs.proofs.folds.has_seal.Tie as tie
 
 returns : tie.Need-returns
 returns c =
-    let a = c.before.before.args in
-    told _ _ (c.ask-log.ensures ∙ seal_answer a.g a.z a.generation 0 0 (log_heads a.g a.log.drive false a.log.zone a.log.written a.sectors.now))
+    let a = c.args in
+    told _ _ (c.ask_log.ensures ∙ seal_answer a.g a.z a.generation 0 0 (log_heads a.g a.log.drive false a.log.zone a.log.written a.sectors.now))
 
-pub has-seal-spec : {M : Type 1} → statement M
-has-seal-spec = tie.close (tie.spec (λ c κs. search rules) returns)
+pub has_seal_spec : {M : Type 1} → statement M
+has_seal_spec = tie.close (tie.spec (λ c κs. search rules) returns)

@@ -10,8 +10,8 @@ unfolding label_kept
 returns c =
     let s = c.before.before.before.before in
     let a = s.args in
-    let e = c.relabel.ensures ∙ ap₂ relabelled c.before.before.first_entry.ensures c.before.last-label.ensures in
+    let e = c.relabel.ensures ∙ ap₂ relabelled c.first_entry-first.ensures c.last_label-last.ensures in
     (e, rw e (label_fits a.g a.log.drive (log_sectors a.g a.log.drive a.log.zone a.sectors.now a.log.written) s.requires.0.drives_most))
 
-pub kept-label-spec : {M : Type 1} → statement M
-kept-label-spec = tie.close (tie.spec (λ c κs. search rules) (λ c κs. search rules) (λ c κs. search rules) returns)
+pub kept_label_spec : {M : Type 1} → statement M
+kept_label_spec = tie.close (tie.spec (λ c κs. search rules) (λ c κs. search rules) (λ c κs. search rules) returns)

@@ -12,9 +12,9 @@ use Rattle.logs.proofs.folds.last_counters.Tie as tie
 
 returns : tie.Need-returns
 returns c =
-    let a = c.before.before.args in
-    let e = c.ask-log.ensures ∙ counters-answer a.g 0 0 (log_heads a.g a.log.drive false a.log.zone a.log.written a.sectors.now) in
+    let a = c.args in
+    let e = c.ask_log.ensures ∙ counters-answer a.g 0 0 (log_heads a.g a.log.drive false a.log.zone a.log.written a.sectors.now) in
     (e, rw e (rw length_tabulate at (last_place_most a.g a.log.drive false (log_sectors a.g a.log.drive a.log.zone a.sectors.now a.log.written) is_counters)))
 
-pub last-counters-spec : {M : Type 1} → statement M
-last-counters-spec = tie.close (tie.spec (λ c κs. search rules) returns)
+pub last_counters_spec : {M : Type 1} → statement M
+last_counters_spec = tie.close (tie.spec (λ c κs. search rules) returns)

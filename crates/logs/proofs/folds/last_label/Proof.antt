@@ -22,20 +22,20 @@ abbrev decreases-walk : tie.decreases-walk
 decreases-walk sectors g log last₀ p₀ last p = log.written - p
 
 abbrev sectorsOf : tie.At-walk invariant-walk decreases-walk → List (List ℕ)
-sectorsOf w = let a = w.before.before.args in sectors_of_log a.g a.log a.sectors.now
+sectorsOf w = let a = w.args in sectors_of_log a.g a.log a.sectors.now
 
-abbrev turn : tie.After-known-told invariant-walk decreases-walk → tie.At-walk invariant-walk decreases-walk
-turn k = k.before.before.before.before
+abbrev turn : tie.In-Whole invariant-walk decreases-walk → tie.At-walk invariant-walk decreases-walk
+turn k = k.before.before
 
 -- a whole entry was found
-whole : (k : tie.After-known-told invariant-walk decreases-walk) → step_of (turn k).before.before.args.g (turn k).walk.p (left_at (turn k).before.before.args.g (turn k).before.before.args.log.drive false (sectorsOf (turn k)) (turn k).walk.p) ≡ Whole k.before.step.given.0.0 k.before.step.given.0.1.0
-whole k = sym k.before.before.before.next-entry.ensures ∙ k.before.step.given.1
+whole : (k : tie.In-Whole invariant-walk decreases-walk) → step_of (turn k).args.g (turn k).walk.p (left_at (turn k).args.g (turn k).args.log.drive false (sectorsOf (turn k)) (turn k).walk.p) ≡ Whole k.in-Whole.f k.in-Whole.q
+whole k = sym k.next_entry-step.ensures ∙ k.in-Whole.is
 
-climbs : (k : tie.After-known-told invariant-walk decreases-walk) → ((turn k).walk.p < k.before.step.given.0.1.0) × (k.before.step.given.0.1.0 ≤ (turn k).before.before.args.log.written)
+climbs : (k : tie.In-Whole invariant-walk decreases-walk) → ((turn k).walk.p < k.in-Whole.q) × (k.in-Whole.q ≤ (turn k).args.log.written)
 climbs k =
     let w = turn k in
-    let a = w.before.before.args in
-    climbs_in_log a.g a.log false a.sectors.now w.walk.p w.walk.inv.0 k.before.step.given.0.0 k.before.step.given.0.1.0 (whole k)
+    let a = w.args in
+    climbs_in_log a.g a.log false a.sectors.now w.walk.p w.walk.invariant.0 k.in-Whole.f k.in-Whole.q (whole k)
 
 walk-less : tie.Need-walk-smaller invariant-walk decreases-walk
 walk-less c = omega (arith, (climbs c.before).0, (climbs c.before).1)
@@ -44,17 +44,17 @@ walk-again : tie.Need-walk-preserved invariant-walk decreases-walk
 walk-again c =
     let k = c.before in
     let w = turn k in
-    let a = w.before.before.args in
-    ((climbs k).1, rw c.later-label.ensures (sym (label_on a.g a.log.drive false (sectorsOf w) w.walk.p (low_in_log a.g a.log a.sectors.now w.walk.p w.walk.inv.0) w.walk.last k.before.step.given.0.0 k.before.step.given.0.1.0 (whole k)) ∙ w.walk.inv.1))
+    let a = w.args in
+    ((climbs k).1, rw c.later_label-last.ensures (sym (label_on a.g a.log.drive false (sectorsOf w) w.walk.p (low_in_log a.g a.log a.sectors.now w.walk.p w.walk.invariant.0) w.walk.last k.in-Whole.f k.in-Whole.q (whole k)) ∙ w.walk.invariant.1))
 
 returns : tie.Need-returns invariant-walk decreases-walk
 returns c =
-    let w = c.before.before.before in
-    let a = w.before.before.args in
-    sym (label_left a.g a.log.drive false (sectorsOf w) w.walk.p (low_in_log a.g a.log a.sectors.now w.walk.p w.walk.invariant.0) w.walk.new c.enum_told.given.0.0 (sym c.before.before.next-entry.ensures ∙ c.enum_told.given.1)) ∙ w.walk.invariant.1
+    let w = c.before.before in
+    let a = w.args in
+    sym (label_left a.g a.log.drive false (sectorsOf w) w.walk.p (low_in_log a.g a.log a.sectors.now w.walk.p w.walk.invariant.0) w.walk.last c.in-Left.field-0 (sym c.next_entry-step.ensures ∙ c.in-Left.is)) ∙ w.walk.invariant.1
 
-pub last-label-spec : {M : Type 1} → statement M
-last-label-spec =
+pub last_label_spec : {M : Type 1} → statement M
+last_label_spec =
     tie.close
     (tie.spec invariant-walk decreases-walk (λ c. (omega arith, refl)) (λ c κs. let s = c.before.before in (s.requires.0, (s.requires.1, c.walk.invariant.0))) (λ c. search rules) (λ c. search rules) (λ c κs. search rules) walk-less walk-again
     returns)

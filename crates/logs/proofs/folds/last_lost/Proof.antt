@@ -9,9 +9,9 @@ use Rattle.logs.proofs.folds.last_lost.Tie as tie
 
 returns : tie.Need-returns
 returns c =
-    let a = c.before.before.args in
-    let e = c.ask-log.ensures ∙ lost-answer a.g 0 255 (log_heads a.g a.log.drive false a.log.zone a.log.written a.sectors.now) in
+    let a = c.args in
+    let e = c.ask_log.ensures ∙ lost-answer a.g 0 255 (log_heads a.g a.log.drive false a.log.zone a.log.written a.sectors.now) in
     (e, rw e (lost_names a.g a.log.drive (log_sectors a.g a.log.drive a.log.zone a.sectors.now a.log.written)))
 
-pub last-lost-spec : {M : Type 1} → statement M
-last-lost-spec = tie.close (tie.spec (λ c κs. search rules) returns)
+pub last_lost_spec : {M : Type 1} → statement M
+last_lost_spec = tie.close (tie.spec (λ c κs. search rules) returns)

@@ -12,9 +12,9 @@ use Rattle.logs.proofs.folds.last_partial.Tie as tie
 
 returns : tie.Need-returns
 returns c =
-    let a = c.before.before.args in
-    let e = c.ask-log.ensures ∙ partial-answer a.g a.z a.generation a.low a.high 0 0 (log_heads a.g a.log.drive true a.log.zone a.log.written a.sectors.now) in
+    let a = c.args in
+    let e = c.ask_log.ensures ∙ partial-answer a.g a.z a.generation a.low a.high 0 0 (log_heads a.g a.log.drive true a.log.zone a.log.written a.sectors.now) in
     (e, rw e (rw length_tabulate at (last_place_most a.g a.log.drive true (log_sectors a.g a.log.drive a.log.zone a.sectors.now a.log.written) (ends_within a.g a.z a.generation a.low a.high))))
 
-pub last-partial-spec : {M : Type 1} → statement M
-last-partial-spec = tie.close (tie.spec (λ c κs. search rules) returns)
+pub last_partial_spec : {M : Type 1} → statement M
+last_partial_spec = tie.close (tie.spec (λ c κs. search rules) returns)

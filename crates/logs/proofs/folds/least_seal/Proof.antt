@@ -9,9 +9,9 @@ use Rattle.logs.proofs.folds.least_seal.Tie as tie
 
 returns : tie.Need-returns
 returns c =
-    let a = c.before.before.args in
-    let e = c.ask-log.ensures ∙ least-answer a.g a.z a.generation 0 a.most (log_heads a.g a.log.drive false a.log.zone a.log.written a.sectors.now) in
+    let a = c.args in
+    let e = c.ask_log.ensures ∙ least-answer a.g a.z a.generation 0 a.most (log_heads a.g a.log.drive false a.log.zone a.log.written a.sectors.now) in
     (e, rw e (least_seal_most a.z a.generation a.most (log_heads a.g a.log.drive false a.log.zone a.log.written a.sectors.now)))
 
-pub least-seal-spec : {M : Type 1} → statement M
-least-seal-spec = tie.close (tie.spec (λ c κs. search rules) returns)
+pub least_seal_spec : {M : Type 1} → statement M
+least_seal_spec = tie.close (tie.spec (λ c κs. search rules) returns)

@@ -6,7 +6,7 @@ use Rattle.logs.proofs.headers.write_closing.Tie as tie
 
 returns : tie.Need-returns
 unfolding encode
-returns c = let k = c.before.before.before.before in c.before.before.write-span.ensures ∙ rw (k.kind-of-log.ensures, k.before.before.requires.1) refl
+returns c = let k = c.before.before.before.before in c.write_span.ensures ∙ rw (k.kind_of_log-kind.ensures, k.requires.1) refl
 
-pub write-closing-spec : {M : Type 1} → statement M
-write-closing-spec = tie.close (tie.spec (λ c κs. search rules) (λ c κs. search rules) (λ c. search rules) returns)
+pub write_closing_spec : {M : Type 1} → statement M
+write_closing_spec = tie.close (tie.spec (λ c κs. search rules) (λ c κs. search rules) (λ c. search rules) returns)

@@ -12,9 +12,9 @@ returns c =
     let k1 = k2.before.before.before.before in
     let s = k1.before.before.before in
     let a = s.args in
-    k4.write-u643.ensures ∙ rw (k3.write-u642.ensures, k2.write-u64.ensures, k1.write-mark.ensures) (frame_laid a.out.now a.kind a.start a.end a.generation s.requires)
+    k4.write_u64-3.ensures ∙ rw (k3.write_u64-2.ensures, k2.write_u64.ensures, k1.write_mark.ensures) (frame_laid a.out.now a.kind a.start a.end a.generation s.requires)
 
-pub write-frame-spec : {M : Type 1} → statement M
-write-frame-spec =
+pub write_frame_spec : {M : Type 1} → statement M
+write_frame_spec =
     tie.close
     (tie.spec (λ c κs. search rules) (λ c κs. search rules) (λ c κs. search rules) (λ c κs. search rules) (λ c. search rules) returns)

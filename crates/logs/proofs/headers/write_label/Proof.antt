@@ -14,10 +14,10 @@ returns c =
     let k1 = k2.before.before.before.before in
     let s = k1.before.before.before in
     let a = s.args in
-    k5.write-u64.ensures ∙ rw (k4.write-u322.ensures, k3.write-u32.ensures, k2.write-label-start.ensures, k1.write-span.ensures, s.requires.1.0) (label_laid a.g a.drive a.lost a.array (omega (arith, s.requires.0.sector_least)))
+    k5.write_u64.ensures ∙ rw (k4.write_u32-2.ensures, k3.write_u32.ensures, k2.write_label_start.ensures, k1.write_span.ensures, s.requires.1.0) (label_laid a.g a.drive a.lost a.array (omega (arith, s.requires.0.sector_least)))
 
-pub write-label-spec : {M : Type 1} → statement M
-write-label-spec =
+pub write_label_spec : {M : Type 1} → statement M
+write_label_spec =
     tie.close
     (tie.spec (λ c κs. search rules) (λ c κs. search rules) (λ c. search rules) (λ c κs. search rules) (λ c. search rules) (λ c. search rules)
     (λ c κs. search rules) (λ c κs. search rules) (λ c. search rules) returns)

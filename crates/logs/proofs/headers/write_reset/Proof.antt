@@ -7,17 +7,17 @@ use borrow.Author.Rules.{rules}
 use Rattle.logs.proofs.headers.write_reset.Statement.{statement}
 use Rattle.logs.proofs.headers.write_reset.Tie as tie
 
-product : (c : tie.After-zone-sectors) → c.before.before.args.z * c.zone-sectors.result ≤ 7340032
-product c = let s = c.before.before in start_small s.args.g s.args.z c.zone-sectors.result s.requires.0 s.requires.1.1 c.zone-sectors.ensures.2
+product : (c : tie.After-zone_sectors-q) → c.args.z * c.zone_sectors-q.result ≤ 7340032
+product c = let s = c.before.before in start_small s.args.g s.args.z c.zone_sectors-q.result s.requires.0 s.requires.1.1 c.zone_sectors-q.ensures.2
 
-add-end : tie.Need-overflow-add-end
-add-end c = omega (arith, product c, c.zone-sectors.ensures.2)
+add-end : tie.Need-overflow_add-end
+add-end c = omega (arith, product c, c.zone_sectors-q.ensures.2)
 
 returns : tie.Need-returns
 unfolding encode
-returns c = let s = c.before.before.before.before.before.before in c.before.before.write-span.ensures ∙ rw (c.before.before.before.before.zone-sectors.ensures.0, s.requires.1.0) refl
+returns c = let s = c.before.before.before.before.before.before in c.write_span.ensures ∙ rw (c.zone_sectors-q.ensures.0, s.requires.1.0) refl
 
-pub write-reset-spec : {M : Type 1} → statement M
-write-reset-spec =
+pub write_reset_spec : {M : Type 1} → statement M
+write_reset_spec =
     tie.close
     (tie.spec (λ c κs. search rules) (λ c. omega (arith, product c)) add-end (λ c κs. search rules) (λ c. search rules) returns)

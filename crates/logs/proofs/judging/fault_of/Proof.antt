@@ -3,11 +3,11 @@ use mathlib.Core.Path.{refl, sym, ◌∙◌}
 use Rattle.logs.proofs.judging.fault_of.Statement.{statement}
 use Rattle.logs.proofs.judging.fault_of.Tie as tie
 
-returns : tie.Need-returns
-returns c = rw (sym c.before.is-marked.ensures ∙ c.if1.true) refl
+returns : tie.Need-returns-then-marked
+returns c = rw (sym c.is_marked-marked.ensures ∙ c.if-marked.true) refl
 
-returns-2 : tie.Need-returns-2
-returns-2 c = rw (sym c.before.is-marked.ensures ∙ c.if1.false) refl
+returns-2 : tie.Need-returns
+returns-2 c = rw (sym c.is_marked-marked.ensures ∙ c.if-marked.false) refl
 
-pub fault-of-spec : {M : Type 1} → statement M
-fault-of-spec = tie.close (tie.spec (λ c κs. search rules) returns returns-2)
+pub fault_of_spec : {M : Type 1} → statement M
+fault_of_spec = tie.close (tie.spec (λ c κs. search rules) returns returns-2)

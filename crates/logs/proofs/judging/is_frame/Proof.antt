@@ -7,7 +7,7 @@ returns : tie.Need-returns
 unfolding head_same
 returns c = (cc)
 
-pub is-frame-spec : {M : Type 1} → statement M
-is-frame-spec =
+pub is_frame_spec : {M : Type 1} → statement M
+is_frame_spec =
     tie.close
     (tie.spec (λ c κs. search rules) (λ c κs. search rules) (λ c κs. search rules) (λ c κs. search rules) returns)

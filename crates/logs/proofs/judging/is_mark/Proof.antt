@@ -12,10 +12,10 @@ returns c =
     let m = c.before.before.before in
     let s = m.before.before in
     let a = s.args in
-    ap (λ (b : Bool). b && (eqb a.kind (get_or a.s.now 3 0) && (eqb 0 (get_or a.s.now 6 0) && eqb 0 (get_or a.s.now 7 0)))) m.is-marked.ensures
+    ap (λ (b : Bool). b && (eqb a.kind (get_or a.s.now 3 0) && (eqb 0 (get_or a.s.now 6 0) && eqb 0 (get_or a.s.now 7 0)))) m.is_marked-marked.ensures
     ∙ sym (mark_marked a.kind a.s.now s.requires)
 
-pub is-mark-spec : {M : Type 1} → statement M
-is-mark-spec =
+pub is_mark_spec : {M : Type 1} → statement M
+is_mark_spec =
     tie.close
     (tie.spec (λ c κs. search rules) (λ c. search rules) (λ c. search rules) (λ c. search rules) returns)

@@ -7,8 +7,8 @@ use Rattle.logs.proofs.judging.is_marked.Tie as tie
 returns : tie.Need-returns
 returns c = let s = c.before.before.before.before.before in sym (marked_same s.args.s.now s.requires)
 
-pub is-marked-spec : {M : Type 1} → statement M
-is-marked-spec =
+pub is_marked_spec : {M : Type 1} → statement M
+is_marked_spec =
     tie.close
     (tie.spec (λ c. search rules) (λ c. search rules) (λ c. search rules) (λ c. search rules) (λ c. search rules) (λ c. search rules)
     (λ c. search rules) (λ c. search rules) returns)

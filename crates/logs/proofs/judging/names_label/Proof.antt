@@ -7,8 +7,8 @@ returns : tie.Need-returns
 unfolding label_same
 returns c = (cc)
 
-pub names-label-spec : {M : Type 1} → statement M
-names-label-spec =
+pub names_label_spec : {M : Type 1} → statement M
+names_label_spec =
     tie.close
     (tie.spec (λ c κs. search rules) (λ c. search rules) (λ c κs. search rules) (λ c. search rules) (λ c κs. search rules) (λ c. search rules)
     (λ c κs. search rules) (λ c. search rules) (λ c κs. search rules) (λ c. search rules) (λ c. search rules) (λ c. search rules) (λ c. search rules)

@@ -5,11 +5,11 @@ use borrow.Author.Rules.{rules}
 use Rattle.logs.proofs.judging.rows_of.Statement.{statement}
 use Rattle.logs.proofs.judging.rows_of.Tie as tie
 
-returns-5 : tie.Need-returns-5
-returns-5 c = let s = c.before.before.before.before in (c.min.ensures ∙ sym (ap (rows_seen s.args.g) c.before.before.f.given.1), omega (arith, c.min.ensures, s.requires.unit_most))
+returns-5 : tie.Need-returns-in-Partial
+returns-5 c = let s = c.before.before in (c.min.ensures ∙ sym (ap (rows_seen s.args.g) c.in-Partial.is), omega (arith, c.min.ensures, s.requires.unit_most))
 
-pub rows-of-spec : {M : Type 1} → statement M
-rows-of-spec =
+pub rows_of_spec : {M : Type 1} → statement M
+rows_of_spec =
     tie.close
     (tie.spec (λ c. search rules) (λ c. search rules) (λ c. search rules) (λ c. search rules) (λ c. search rules) (λ c κs. search rules)
     (λ c. search rules) (λ c. search rules) (λ c. search rules) (λ c. search rules) (λ c. search rules) (λ c. search rules) returns-5

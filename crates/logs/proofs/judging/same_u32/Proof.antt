@@ -7,7 +7,7 @@ returns : tie.Need-returns
 returns c =
     let s = c.before.before in
     let a = s.args in
-    rw c.read_u32.ensures (same_number 4 a.n a.s.now a.at (λ i. (c.before.shared-slice-known.given i).fits) s.requires s.ranges.n.fits)
+    rw c.read_u32.ensures (same_number 4 a.n a.s.now a.at (λ i. (c.shared_slice_known-1.given i).fits) s.requires s.ranges.n.fits)
 
-pub same-u32-spec : {M : Type 1} → statement M
-same-u32-spec = tie.close (tie.spec (λ c κs. search rules) returns)
+pub same_u32_spec : {M : Type 1} → statement M
+same_u32_spec = tie.close (tie.spec (λ c κs. search rules) returns)

@@ -8,8 +8,8 @@ returns : tie.Need-returns
 unfolding zero_words
 returns c = (cc)
 
-pub zero-words-spec : {M : Type 1} → statement M
-zero-words-spec =
+pub zero_words_spec : {M : Type 1} → statement M
+zero_words_spec =
     tie.close
     (tie.spec (λ c κs. search rules) (λ c. search rules) (λ c κs. search rules) (λ c. search rules) (λ c κs. search rules) (λ c. search rules)
     (λ c κs. search rules) returns)

@@ -15,16 +15,16 @@ use Rattle.logs.proofs.walking.fault_in_zone.Tie as tie
 within : (c : tie.Start) → (c.args.p * c.args.g.sector + c.args.g.sector ≤ c.args.g.capacity * c.args.g.sector) × (c.args.g.capacity * c.args.g.sector ≤ 268435456)
 within c = (sector_in_zone c.args.g c.args.p c.args.written c.requires.1.1 c.requires.1.0.short, zone_bytes_small c.args.g c.requires.0)
 
-mul_at : tie.Need-overflow-mul-at
+mul_at : tie.Need-overflow_mul-at
 mul_at c = let k = within c.before in omega (arith, k.0, k.1)
 
-add-end : tie.Need-overflow-add-end
+add-end : tie.Need-overflow_add-end
 add-end c = let k = within c.before in omega (arith, k.0, k.1)
 
-part-fault-of-end : tie.Need-slice-bounds-fault-of-end
-part-fault-of-end c = let k = within c.before in omega (arith, k.0, c.before.requires.1.0.long)
+part-fault-of-end : tie.Need-slice_bounds-fault_of-end
+part-fault-of-end c = let k = within c.before in omega (arith, k.0, c.requires.1.0.long)
 
-fault-of-requires : tie.Need-fault-of-requires
+fault-of-requires : tie.Need-fault_of-requires
 fault-of-requires c κs =
     let s = c.before.before in
     let a = s.args in
@@ -39,10 +39,10 @@ returns c =
     let s = c.before.before.before in
     let a = s.args in
     let d : a.p * a.g.sector + a.g.sector - a.p * a.g.sector ≡ a.g.sector = omega arith in
-    c.fault-of.ensures ∙ ap (λ (t : List ℕ). fault_of t)
+    c.fault_of.ensures ∙ ap (λ (t : List ℕ). fault_of t)
     (rw d refl ∙ sym (get_d_tabulate (λ (i : ℕ). sector_no a.g.sector a.bytes.now i) a.written a.p [] s.requires.1.1))
 
-pub fault-in-zone-spec : {M : Type 1} → statement M
-fault-in-zone-spec =
+pub fault_in_zone_spec : {M : Type 1} → statement M
+fault_in_zone_spec =
     tie.close
     (tie.spec mul_at add-end (λ c. search rules) (λ c. search rules) part-fault-of-end fault-of-requires returns)

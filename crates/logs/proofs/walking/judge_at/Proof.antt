@@ -14,11 +14,11 @@ returns : tie.Need-returns
 returns c =
     let s = c.before.before.before.before in
     let a = s.args in
-    let d : c.before.before.byte-at.result + a.g.sector - c.before.before.byte-at.result ≡ a.g.sector = omega arith in
+    let d : c.byte_at-at.result + a.g.sector - c.byte_at-at.result ≡ a.g.sector = omega arith in
     c.judge.ensures ∙ ap (λ (t : List ℕ). found (decode a.g a.drive a.parity t))
-    (rw (d, c.before.before.byte-at.ensures.0) refl ∙ sym (get_d_tabulate (λ (i : ℕ). sector_no a.g.sector a.sectors.now (cell a.g a.drive a.zone * a.g.capacity + i)) a.n a.p [] s.requires.1.1))
+    (rw (d, c.byte_at-at.ensures.0) refl ∙ sym (get_d_tabulate (λ (i : ℕ). sector_no a.g.sector a.sectors.now (cell a.g a.drive a.zone * a.g.capacity + i)) a.n a.p [] s.requires.1.1))
 
-pub judge-at-spec : {M : Type 1} → statement M
-judge-at-spec =
+pub judge_at_spec : {M : Type 1} → statement M
+judge_at_spec =
     tie.close
     (tie.spec (λ c κs. search rules) (λ c. search rules) (λ c. search rules) (λ c. search rules) (λ c. search rules) (λ c κs. search rules) returns)

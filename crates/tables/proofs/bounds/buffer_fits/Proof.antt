@@ -9,5 +9,5 @@ returns : tie.Need-returns
 unfolding buffer_fits
 returns c = exact_division c.args.bytes c.args.g.sector c.args.count (omega (arith, c.requires.sector_least))
 
-pub buffer-fits-spec : {M : Type 1} → statement M
-buffer-fits-spec = tie.close (tie.spec (λ c. search rules) (λ c. search rules) returns)
+pub buffer_fits_spec : {M : Type 1} → statement M
+buffer_fits_spec = tie.close (tie.spec (λ c. search rules) (λ c. search rules) returns)

@@ -9,5 +9,5 @@ returns : tie.Need-returns
 unfolding parity_drive
 returns c = (refl, mod-lt _ c.requires.0)
 
-pub parity-drive-spec : {M : Type 1} → statement M
-parity-drive-spec = tie.close (tie.spec (λ c. search rules) (λ c. search rules) (λ c. search rules) (λ c. search rules) returns)
+pub parity_drive_spec : {M : Type 1} → statement M
+parity_drive_spec = tie.close (tie.spec (λ c. search rules) (λ c. search rules) (λ c. search rules) (λ c. search rules) returns)

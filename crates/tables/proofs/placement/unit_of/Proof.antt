@@ -7,7 +7,7 @@ use borrow.Author.Rules.{rules}
 use Rattle.tables.proofs.placement.unit_of.Statement.{statement}
 use Rattle.tables.proofs.placement.unit_of.Tie as tie
 
-returns : tie.Need-returns
+returns : tie.Need-returns-then-p-drive
 unfolding unit_of
 returns c =
     let a = c.before.args in
@@ -16,9 +16,9 @@ returns c =
     let l : a.drive - (a.p + 1) < a.d = omega arith in
     (sym (mod-eq-sub-mod h ∙ ap (λ (n : ℕ). n % a.d) e ∙ mod-eq_of_lt l), l)
 
-returns-2 : tie.Need-returns-2
+returns-2 : tie.Need-returns-else-p-drive
 unfolding unit_of
 returns-2 c = let a = c.before.args in let l : a.drive + a.d - (a.p + 1) < a.d = omega arith in (sym (mod-eq_of_lt l), l)
 
-pub unit-of-spec : {M : Type 1} → statement M
-unit-of-spec = tie.close (tie.spec (λ c. search rules) (λ c. search rules) (λ c. search rules) (λ c. search rules) (λ c. search rules) returns returns-2)
+pub unit_of_spec : {M : Type 1} → statement M
+unit_of_spec = tie.close (tie.spec (λ c. search rules) (λ c. search rules) (λ c. search rules) (λ c. search rules) (λ c. search rules) returns returns-2)

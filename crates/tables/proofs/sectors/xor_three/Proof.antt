@@ -11,13 +11,13 @@ use Rattle.tables.specs.laws.Xor.{xor_nil, xor_bytes_assoc, xor_part, xor_part_s
 use Rattle.tables.proofs.sectors.xor_three.Statement.{statement}
 use Rattle.tables.proofs.sectors.xor_three.Tie as tie
 
-abbrev invariant-loop : tie.invariant-loop
+abbrev invariant-loop : tie.invariant-loop-i
 invariant-loop acc₀ a b c n i₀ acc i = (i ≤ length acc₀) × (n ≡ length acc₀) × (acc ≡ xor_part acc₀ (xor_bytes a (xor_bytes b c)) i) × (length acc ≡ length acc₀)
 
-abbrev decreases-loop : tie.decreases-loop
+abbrev decreases-loop : tie.decreases-loop-i
 decreases-loop acc₀ a b c n i₀ acc i = length acc₀ - i
 
-loop-holds : tie.Need-loop-init invariant-loop decreases-loop
+loop-holds : tie.Need-loop-i-init invariant-loop decreases-loop
 loop-holds c = (omega arith, (cc), sym (xor_nil c.args.acc.now), refl)
 
 -- what is added in all, and its length
@@ -27,9 +27,9 @@ added s = let a = s.args in xor_bytes a.a.now (xor_bytes a.b.now a.c.now)
 added-long : (s : tie.Start invariant-loop decreases-loop) → length (added s) ≡ length s.args.acc.now
 added-long s = let a = s.args in xor_three_long a.a.now a.b.now a.c.now (omega arith) (omega arith) ∙ s.requires.0
 
-loop-again : tie.Need-loop-preserved invariant-loop decreases-loop
+loop-again : tie.Need-loop-i-preserved invariant-loop decreases-loop
 loop-again c =
-    let l = c.before.before.before.before.before.loop in
+    let l = c.before.before.before.before.before.loop-i in
     let s = c.before.before.before.before.before.before in
     let a = s.args in
     let h : l.i < length a.acc.now = omega arith in
@@ -40,18 +40,18 @@ loop-again c =
       simp length-set l.invariant.3,
     )
 
-same_length : tie.Need-same-length invariant-loop decreases-loop
-same_length c = c.before.loop.invariant.3
+same_length : tie.Need-shape_of-acc invariant-loop decreases-loop
+same_length c = c.before.loop-i.invariant.3
 
 returns : tie.Need-returns invariant-loop decreases-loop
 returns c =
     let s = c.before.before in
     let a = s.args in
-    let e : c.before.loop.i ≡ length (added s) = omega (arith, added-long s) in
-    c.before.loop.invariant.2 ∙ rw (e, take-length) (sym (xor_bytes_assoc (xor_bytes a.acc.now a.a.now) a.b.now a.c.now ∙ xor_bytes_assoc a.acc.now a.a.now (xor_bytes a.b.now a.c.now)))
+    let e : c.before.loop-i.i ≡ length (added s) = omega (arith, added-long s) in
+    c.before.loop-i.invariant.2 ∙ rw (e, take-length) (sym (xor_bytes_assoc (xor_bytes a.acc.now a.a.now) a.b.now a.c.now ∙ xor_bytes_assoc a.acc.now a.a.now (xor_bytes a.b.now a.c.now)))
 
-pub xor-three-spec : {M : Type 1} → statement M
-xor-three-spec =
+pub xor_three_spec : {M : Type 1} → statement M
+xor_three_spec =
     tie.close
     (tie.spec invariant-loop decreases-loop loop-holds (λ c. omega arith) (λ c. omega arith) (λ c. omega arith) (λ c. omega arith) (λ c. omega arith) (λ c. omega arith)
     (λ c. omega arith) loop-again same_length returns)

@@ -7,17 +7,17 @@ use borrow.Author.Rules.{rules}
 use Rattle.tables.proofs.stores.advance.Statement.{statement}
 use Rattle.tables.proofs.stores.advance.Tie as tie
 
-add-next : tie.Need-overflow-add-next
+add-next : tie.Need-overflow_add-next
 add-next c =
     let s = c.before.before.before in
-    let room : get_or s.args.written.now c.before.cell-of.result 0 < s.args.g.capacity = rw c.before.cell-of.ensures.0 s.requires.1.3 in
+    let room : get_or s.args.written.now c.before.cell_of-at.result 0 < s.args.g.capacity = rw c.before.cell_of-at.ensures.0 s.requires.1.3 in
     omega (arith, room, s.requires.0.zone_most)
 
 returns : tie.Need-returns
 unfolding written_after_append
-returns c = rw c.before.cell-of.ensures.0 refl
+returns c = rw c.before.cell_of-at.ensures.0 refl
 
-pub advance-spec : {M : Type 1} → statement M
-advance-spec =
+pub advance_spec : {M : Type 1} → statement M
+advance_spec =
     tie.close
     (tie.spec (λ c κs. search rules) (λ c. search rules) (λ c. search rules) add-next (λ c. search rules) (λ c. search rules) (λ c. search rules) returns)

@@ -9,9 +9,9 @@ unfolding sectors_after_append
 returns c =
     let f = c.before.before in
     let e = f.before.before.before.before in
-    (e.copy-in.ensures ∙ rw e.before.before.next-byte.ensures.0, f.advance.ensures)
+    (e.copy_in.ensures ∙ rw e.before.before.next_byte-to.ensures.0, f.advance.ensures)
 
-pub append-sector-spec : {M : Type 1} → statement M
-append-sector-spec =
+pub append_sector_spec : {M : Type 1} → statement M
+append_sector_spec =
     tie.close
     (tie.spec (λ c κs. search rules) (λ c κs. search rules) (λ c κs. search rules) (λ c. search rules) (λ c. search rules) returns)

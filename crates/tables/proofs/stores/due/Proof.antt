@@ -2,5 +2,5 @@ use mathlib.Core.Path.{refl}
 use Rattle.tables.proofs.stores.due.Statement.{statement}
 use Rattle.tables.proofs.stores.due.Tie as tie
 
-pub due-spec : {M : Type 1} → statement M
-due-spec = tie.close (tie.spec (λ c. refl))
+pub due_spec : {M : Type 1} → statement M
+due_spec = tie.close (tie.spec (λ c. refl))

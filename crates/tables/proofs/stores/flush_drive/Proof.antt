@@ -19,11 +19,11 @@ copied g d ws ds left at n is e all = is ∙ rw (e, all) refl
 returns : tie.Need-returns
 returns c =
     let a = c.before.before.before.before.before.before.before.before.args in
-    let r = c.before.before.before.before.before.row_of in
-    copied a.g a.drive a.written.now a.durable.now _ r.result (r.result + a.g.zones + 3 - r.result) c.before.before.copy-pointers.ensures r.ensures.0 (omega arith)
+    let r = c.before.before.before.before.before.row_of-at in
+    copied a.g a.drive a.written.now a.durable.now _ r.result (r.result + a.g.zones + 3 - r.result) c.before.before.copy_pointers.ensures r.ensures.0 (omega arith)
 
-pub flush-drive-spec : {M : Type 1} → statement M
-flush-drive-spec =
+pub flush_drive_spec : {M : Type 1} → statement M
+flush_drive_spec =
     tie.close
     (tie.spec (λ c κs. search rules) (λ c. omega arith) (λ c. omega arith) (λ c. omega arith) (λ c. search rules) (λ c. search rules)
     (λ c. search rules) (λ c κs. search rules) (λ c. search rules) returns)

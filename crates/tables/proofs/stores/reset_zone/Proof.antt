@@ -10,11 +10,11 @@ returns : tie.Need-returns
 unfolding pointers_after_reset
 returns c =
     let a = c.before.before.before.args in
-    let e = c.cell-of.ensures.0 in
+    let e = c.cell_of-at.ensures.0 in
     (ap (λ (at : ℕ). set a.written.now at 0) e, ap (λ (at : ℕ). set a.durable.now at 0) e)
 
-pub reset-zone-spec : {M : Type 1} → statement M
-reset-zone-spec =
+pub reset_zone_spec : {M : Type 1} → statement M
+reset_zone_spec =
     tie.close
     (tie.spec (λ c κs. search rules) (λ c. search rules) (λ c. search rules) (λ c. search rules) (λ c. search rules) (λ c. search rules)
     (λ c. search rules) returns)

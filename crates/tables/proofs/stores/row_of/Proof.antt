@@ -8,11 +8,11 @@ use Rattle.tables.proofs.stores.row_of.Tie as tie
 known : (c : tie.Start) → SmallPlace c.args.g c.args.drive zero zero
 known c = small_place _ _ _ _ c.requires.0 c.requires.1 (omega arith) zero-le
 
-mul-result : tie.Need-overflow-mul-result
+mul-result : tie.Need-overflow_mul-result
 mul-result c = omega (arith, (known c).row)
 
 returns : tie.Need-returns
 returns c = let h = row_in c.args.g c.args.drive c.requires.1 in (omega arith, omega (arith, h))
 
-pub row-of-spec : {M : Type 1} → statement M
-row-of-spec = tie.close (tie.spec (λ c. search rules) mul-result returns)
+pub row_of_spec : {M : Type 1} → statement M
+row_of_spec = tie.close (tie.spec (λ c. search rules) mul-result returns)

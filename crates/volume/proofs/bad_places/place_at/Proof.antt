@@ -8,21 +8,19 @@ use Rattle.volume.proofs.bad_places.place_at.Statement.{statement}
 use Rattle.volume.proofs.bad_places.place_at.Tie as tie
 
 -- the sector has sixteen bits
-cast-t10 : tie.Need-overflow-cast-t10
+cast-t10 : tie.Need-overflow_cast-result-in-NoEntry-2
 cast-t10 c =
-    let e = c.before.before.end in
-    let s = c.before.before.before.before in
-    let h : e.given.0.0 < 65536 = subst (λ (w : WalkEnd). (bad_place_seen s.args.drive s.args.zone w).sector < 65536) e.given.1 s.requires.2 in
+    let s = c.before.before in
+    let h : c.in-NoEntry.sector < 65536 = subst (λ (w : WalkEnd). (bad_place_seen s.args.drive s.args.zone w).sector < 65536) c.in-NoEntry.is s.requires.2 in
     omega (arith, h)
 
-returns-2 : tie.Need-returns-2
+returns-2 : tie.Need-returns-in-NoEntry
 returns-2 c =
-    let e = c.before.before.end in
-    let s = c.before.before.before.before in
-    rw c.fault-number.ensures (sym (ap (bad_place_seen s.args.drive s.args.zone) e.given.1))
+    let s = c.before.before in
+    rw c.fault_number-number.ensures (sym (ap (bad_place_seen s.args.drive s.args.zone) c.in-NoEntry.is))
 
-pub place-at-spec : {M : Type 1} → statement M
-place-at-spec =
+pub place_at_spec : {M : Type 1} → statement M
+place_at_spec =
     tie.close
     (tie.spec (λ c. search rules) (λ c κs. search rules) (λ c. search rules) (λ c κs. search rules) (λ c. search rules) (λ c. search rules) cast-t10
     (λ c. search rules) (λ c κs. search rules) (λ c. search rules) returns-2 (λ c. search rules))

@@ -7,14 +7,14 @@ use Rattle.tables.specs.laws.GeometryTest.{valid_if_test}
 use Rattle.volume.proofs.checks.input_within.Statement.{statement}
 use Rattle.volume.proofs.checks.input_within.Tie as tie
 
-returns : tie.Need-returns
-returns c = rw (sym c.before.valid.ensures ∙ not-true c.before.valid.result c.if1.true) refl
+returns : tie.Need-returns-then-not-ok
+returns c = rw (sym c.valid-ok.ensures ∙ not-true c.valid-ok.result c.if-not-ok.true-raw) refl
 
-valid : (c : tie.Else1) → is_valid c.before.before.args.g ≡ true
-valid c = sym c.before.valid.ensures ∙ not-false c.before.valid.result c.if1.false
+valid : (c : tie.Else-not-ok) → is_valid c.args.g ≡ true
+valid c = sym c.valid-ok.ensures ∙ not-false c.valid-ok.result c.if-not-ok.false-raw
 
-returns-2 : tie.Need-returns-2
-returns-2 c = rw (valid c.before) c.state-within.ensures
+returns-2 : tie.Need-returns
+returns-2 c = rw (valid c.before) c.state_within.ensures
 
-pub input-within-spec : {M : Type 1} → statement M
-input-within-spec = tie.close (tie.spec (λ c κs. search rules) returns (λ c κs. valid_if_test _ (valid c)) returns-2)
+pub input_within_spec : {M : Type 1} → statement M
+input_within_spec = tie.close (tie.spec (λ c κs. search rules) returns (λ c κs. valid_if_test _ (valid c)) returns-2)

@@ -6,7 +6,7 @@ use Rattle.volume.proofs.checks.state_within.Tie as tie
 
 returns : tie.Need-returns
 unfolding state_within
-returns c = rw c.pointers-within.ensures refl
+returns c = rw c.pointers_within-ok.ensures refl
 
-pub state-within-spec : {M : Type 1} → statement M
-state-within-spec = tie.close (tie.spec (λ c κs. search rules) returns)
+pub state_within_spec : {M : Type 1} → statement M
+state_within_spec = tie.close (tie.spec (λ c κs. search rules) returns)

@@ -10,11 +10,11 @@ use borrow.Author.Rules.{rules}
 use Rattle.volume.proofs.drive_logs.begins_labelled.Statement.{statement}
 use Rattle.volume.proofs.drive_logs.begins_labelled.Tie as tie
 
-begins-labelled-requires : tie.Need-begins-labelled-requires
-begins-labelled-requires c κs = let s = c.before.before.before in let a = s.args in (s.requires.0, in_log a.g a.sectors.now a.written.now a.drive general_zone c.log-in.result c.log-in.ensures s.requires.1.0 s.requires.1.1 (omega arith))
+begins-labelled-requires : tie.Need-begins_labelled-requires
+begins-labelled-requires c κs = let s = c.before.before.before in let a = s.args in (s.requires.0, in_log a.g a.sectors.now a.written.now a.drive general_zone c.log_in-log.result c.log_in-log.ensures s.requires.1.0 s.requires.1.1 (omega arith))
 
 returns : tie.Need-returns
-returns c = let s = c.before.before.before.before in let a = s.args in c.begins-labelled.ensures ∙ ap (λ (l : Log). labelled (log_heads a.g l.drive false l.zone l.written a.sectors.now)) c.before.log-in.ensures ∙ ap labelled (general_heads_lem a.g a.sectors.now a.written.now a.drive s.requires.1.1 (zone_pointer a.g a.written.now a.drive general_zone) refl)
+returns c = let s = c.before.before.before.before in let a = s.args in c.begins_labelled.ensures ∙ ap (λ (l : Log). labelled (log_heads a.g l.drive false l.zone l.written a.sectors.now)) c.log_in-log.ensures ∙ ap labelled (general_heads_lem a.g a.sectors.now a.written.now a.drive s.requires.1.1 (zone_pointer a.g a.written.now a.drive general_zone) refl)
 
-pub begins-labelled-spec : {M : Type 1} → statement M
-begins-labelled-spec = tie.close (tie.spec (λ c κs. search rules) begins-labelled-requires returns)
+pub begins_labelled_spec : {M : Type 1} → statement M
+begins_labelled_spec = tie.close (tie.spec (λ c κs. search rules) begins-labelled-requires returns)

@@ -12,26 +12,26 @@ use borrow.Author.Rules.{rules}
 use Rattle.volume.proofs.drive_logs.says_lost.Statement.{statement}
 use Rattle.volume.proofs.drive_logs.says_lost.Tie as tie
 
-returns : tie.Need-returns
+returns : tie.Need-returns-then-not-has_say
 returns c =
-    let h = c.before.begins-labelled in
-    rw (sym h.ensures ∙ not-true h.result c.if1.true) refl
+    let h = c.begins_labelled-has_say in
+    rw (sym h.ensures ∙ not-true h.result c.if-not-has_say.true-raw) refl
 
-last-lost-requires : tie.Need-last-lost-requires
+last-lost-requires : tie.Need-last_lost-requires
 last-lost-requires c κs =
     let s = c.before.before.before.before.before in
     let a = s.args in
-    (s.requires.0, in_log a.g a.sectors.now a.written.now a.drive general_zone c.log-in.result c.log-in.ensures s.requires.1.0 s.requires.1.1 (omega arith))
+    (s.requires.0, in_log a.g a.sectors.now a.written.now a.drive general_zone c.log_in-log.result c.log_in-log.ensures s.requires.1.0 s.requires.1.1 (omega arith))
 
-returns-2 : tie.Need-returns-2
+returns-2 : tie.Need-returns
 returns-2 c =
     let s = c.before.before.before.before.before.before in
     let a = s.args in
-    let h = c.before.before.before.begins-labelled in
-    c.last-lost.ensures.0 ∙ ap (λ (l : Log). last_lost no_drive (log_heads a.g l.drive false l.zone l.written a.sectors.now)) c.before.log-in.ensures ∙ ap (last_lost no_drive) (general_heads_lem a.g a.sectors.now a.written.now a.drive s.requires.1.1 (zone_pointer a.g a.written.now a.drive general_zone) refl)
-    ∙ rw (sym h.ensures ∙ not-false h.result c.before.before.if1.false) refl
+    let h = c.begins_labelled-has_say in
+    c.last_lost.ensures.0 ∙ ap (λ (l : Log). last_lost no_drive (log_heads a.g l.drive false l.zone l.written a.sectors.now)) c.log_in-log.ensures ∙ ap (last_lost no_drive) (general_heads_lem a.g a.sectors.now a.written.now a.drive s.requires.1.1 (zone_pointer a.g a.written.now a.drive general_zone) refl)
+    ∙ rw (sym h.ensures ∙ not-false h.result c.if-not-has_say.false-raw) refl
 
-pub says-lost-spec : {M : Type 1} → statement M
-says-lost-spec =
+pub says_lost_spec : {M : Type 1} → statement M
+says_lost_spec =
     tie.close
     (tie.spec (λ c κs. search rules) returns (λ c κs. search rules) last-lost-requires returns-2)

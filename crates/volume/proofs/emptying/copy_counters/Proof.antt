@@ -15,10 +15,10 @@ returns c =
     let a = s.args in
     let e = a.e in
     let gs = a.generations.now in
-    let f = c.before.before.before.before.append-counters in
+    let f = c.append_counters in
     let h = s.requires.1.4 in
-    appended_as e.to a.budget f.result true e.drive general_zone (encode e.to e.drive (counters (take e.to.zones gs))) (encode e.from e.drive (counters (take e.from.zones gs))) a.sectors.now a.written.now f.new.0 f.new.1.0
+    appended_as e.to a.budget f.result true e.drive general_zone (encode e.to e.drive (counters (take e.to.zones gs))) (encode e.from e.drive (counters (take e.from.zones gs))) a.sectors.now a.written.now f.new.sectors f.new.written
     (shape_encode e.from e.to h e.drive (counters (take e.to.zones gs)) ∙ ap (λ (n : ℕ). encode e.from e.drive (counters (take n gs))) h.zones) f.ensures
 
-pub copy-counters-spec : {M : Type 1} → statement M
-copy-counters-spec = tie.close (tie.spec (λ c κs. let s = c.before.before.before.before.before in (s.requires.0, (s.requires.1.0, s.requires.1.1, s.requires.1.2, s.requires.1.3))) (λ c. search rules) (λ c. search rules) returns)
+pub copy_counters_spec : {M : Type 1} → statement M
+copy_counters_spec = tie.close (tie.spec (λ c κs. let s = c.before.before.before.before.before in (s.requires.0, (s.requires.1.0, s.requires.1.1, s.requires.1.2, s.requires.1.3))) (λ c. search rules) (λ c. search rules) returns)

@@ -21,65 +21,65 @@ heads s = let a = s.args in old_heads a.e a.sectors.now a.pointers.now
 abbrev Kept : tie.Start → List ℕ → List ℕ → Type 0
 Kept s xs ws = Copying false s.args.e s.args.pointers.now xs ws × (old_heads s.args.e xs s.args.pointers.now ≡ heads s)
 
-labelled : (k : tie.After-copy-label) → Kept k.before.before.before.before.before.before.before k.copy-label.new.0 k.copy-label.new.1.0
+labelled : (k : tie.After-copy_label-rest) → Kept k.before.before.before.before.before.before.before k.copy_label-rest.new.sectors k.copy_label-rest.new.written
 labelled k =
     let s = k.before.before.before.before.before.before.before in
     let a = s.args in
-    let f = k.copy-label in
-    headers_kept a.e a.pointers.now a.sectors.now a.written.now s.requires.1.0 a.budget f.result (kept_label (heads s)) f.new.0 f.new.1.0 (kept_label_long a.e.from a.e.drive s.requires.0 (heads s)) f.ensures
+    let f = k.copy_label-rest in
+    headers_kept a.e a.pointers.now a.sectors.now a.written.now s.requires.1.0 a.budget f.result (kept_label (heads s)) f.new.sectors f.new.written (kept_label_long a.e.from a.e.drive s.requires.0 (heads s)) f.ensures
 
-counted : (k : tie.After-copy-counters) → Kept k.before.before.before.before.before.before.before.before.before.before.before.before.before.before k.copy-counters.new.0 k.copy-counters.new.1.0
+counted : (k : tie.After-copy_counters-rest) → Kept k.before.before.before.before.before.before.before.before.before.before.before.before.before.before k.copy_counters-rest.new.sectors k.copy_counters-rest.new.written
 counted k =
     let l = k.before.before.before.before.before.before.before in
     let s = l.before.before.before.before.before.before.before in
     let a = s.args in
-    let b = l.copy-label in
-    let f = k.copy-counters in
-    let r = headers_kept a.e a.pointers.now b.new.0 b.new.1.0 (labelled l).0 b.result f.result (counters (take a.e.from.zones a.generations.now) ∷ []) f.new.0 f.new.1.0 (counters_long a.e.from a.e.drive s.requires.0 a.generations.now s.requires.1.1) f.ensures in
+    let b = l.copy_label-rest in
+    let f = k.copy_counters-rest in
+    let r = headers_kept a.e a.pointers.now b.new.sectors b.new.written (labelled l).0 b.result f.result (counters (take a.e.from.zones a.generations.now) ∷ []) f.new.sectors f.new.written (counters_long a.e.from a.e.drive s.requires.0 a.generations.now s.requires.1.1) f.ensures in
     (r.0, r.1 ∙ (labelled l).1)
 
-seals : (k : tie.After-copy-headers) → MadeAppends k.before.before.before.before.before.before.before.before.before.before.before.before.before.before.before.before.before.before.before.before.before.args.e.to k.before.before.before.before.before.before.before.copy-counters.result k.copy-headers.result (headers_on k.before.before.before.before.before.before.before.before.before.before.before.before.before.before.before.before.before.before.before.before.before.args.e (copies_below k.before.before.before.before.before.before.before.before.before.before.before.before.before.before.before.before.before.before.before.before.before.args.e.from Seal k.before.before.before.before.before.before.before.before.before.before.before.before.before.before.before.before.before.before.before.before.before.args.generations.now (heads k.before.before.before.before.before.before.before.before.before.before.before.before.before.before.before.before.before.before.before.before.before) k.before.before.before.before.before.before.before.before.before.before.before.before.before.before.before.before.before.before.before.before.before.args.e.from.zones)) k.before.before.before.before.before.before.before.copy-counters.new.0 k.before.before.before.before.before.before.before.copy-counters.new.1.0 k.copy-headers.new.1.0 k.copy-headers.new.1.1.0
-seals k = rw (counted k.before.before.before.before.before.before.before).1 at k.copy-headers.ensures
+seals : (k : tie.After-copy_headers-rest) → MadeAppends k.args.e.to k.copy_counters-rest.result k.copy_headers-rest.result (headers_on k.args.e (copies_below k.args.e.from Seal k.args.generations.now (heads k.before.before.before.before.before.before.before.before.before.before.before.before.before.before.before.before.before.before.before.before.before) k.args.e.from.zones)) k.copy_counters-rest.new.sectors k.copy_counters-rest.new.written k.copy_headers-rest.new.sectors k.copy_headers-rest.new.written
+seals k = rw (counted k.before.before.before.before.before.before.before).1 at k.copy_headers-rest.ensures
 
-sealed : (k : tie.After-copy-headers) → Kept k.before.before.before.before.before.before.before.before.before.before.before.before.before.before.before.before.before.before.before.before.before k.copy-headers.new.1.0 k.copy-headers.new.1.1.0
+sealed : (k : tie.After-copy_headers-rest) → Kept k.before.before.before.before.before.before.before.before.before.before.before.before.before.before.before.before.before.before.before.before.before k.copy_headers-rest.new.sectors k.copy_headers-rest.new.written
 sealed k =
     let l = k.before.before.before.before.before.before.before in
     let s = l.before.before.before.before.before.before.before.before.before.before.before.before.before.before in
     let a = s.args in
-    let b = l.copy-counters in
-    let f = k.copy-headers in
-    let r = headers_kept a.e a.pointers.now b.new.0 b.new.1.0 (counted l).0 b.result f.result (copies_below a.e.from Seal a.generations.now (heads s) a.e.from.zones) f.new.1.0 f.new.1.1.0
+    let b = l.copy_counters-rest in
+    let f = k.copy_headers-rest in
+    let r = headers_kept a.e a.pointers.now b.new.sectors b.new.written (counted l).0 b.result f.result (copies_below a.e.from Seal a.generations.now (heads s) a.e.from.zones) f.new.sectors f.new.written
     (copies_long a.e.from a.e.drive s.requires.0 Seal a.generations.now (heads s) a.e.from.zones) (seals k) in
     (r.0, r.1 ∙ (counted l).1)
 
-copy-counters-requires : tie.Need-copy-counters-requires
+copy-counters-requires : tie.Need-copy_counters-rest-requires
 copy-counters-requires c κs =
     let k = c.before.before.before.before.before.before in
     let s = k.before.before.before.before.before.before.before in
     let a = s.args in
-    let b = k.copy-label in
+    let b = k.copy_label-rest in
     let m = (labelled k).0 in
     let h = m.moves.shape in
-    (shape_valid a.e.from a.e.to h s.requires.0, (to_drive false a.e a.pointers.now b.new.0 b.new.1.0 m, rw h.zones s.requires.1.1, to_sectors false a.e a.pointers.now b.new.0 b.new.1.0 m, to_written false a.e a.pointers.now b.new.0 b.new.1.0 m, h))
+    (shape_valid a.e.from a.e.to h s.requires.0, (to_drive false a.e a.pointers.now b.new.sectors b.new.written m, rw h.zones s.requires.1.1, to_sectors false a.e a.pointers.now b.new.sectors b.new.written m, to_written false a.e a.pointers.now b.new.sectors b.new.written m, h))
 
-copy-headers-requires : tie.Need-copy-headers-requires
+copy-headers-requires : tie.Need-copy_headers-rest-requires
 copy-headers-requires c κs = let k = c.before.before.before.before.before.before in let s = k.before.before.before.before.before.before.before.before.before.before.before.before.before.before in (s.requires.0, ((counted k).0, s.requires.1.1))
 
-copy-headers-requires-2 : tie.Need-copy-headers-requires-2
+copy-headers-requires-2 : tie.Need-copy_headers-requires
 copy-headers-requires-2 c κs = let k = c.before.before.before.before.before.before in let s = k.before.before.before.before.before.before.before.before.before.before.before.before.before.before.before.before.before.before.before.before.before in (s.requires.0, ((sealed k).0, s.requires.1.1))
 
 returns : tie.Need-returns
 returns c =
     let w = c.before.before.before.before in
-    let z = w.copy-headers2 in
+    let z = w.copy_headers in
     let k = w.before.before.before.before.before.before.before in
     let j = k.before.before.before.before.before.before.before in
     let i = j.before.before.before.before.before.before.before in
     let s = i.before.before.before.before.before.before.before in
     let a = s.args in
-    let resets : MadeAppends a.e.to k.copy-headers.result z.result (headers_on a.e (copies_below a.e.from Reset a.generations.now (heads s) a.e.from.zones)) k.copy-headers.new.1.0 k.copy-headers.new.1.1.0 z.new.1.0 z.new.1.1.0 = rw (sealed k).1 at z.ensures in
-    general_made a.e a.generations.now (heads s) s.requires.1.1 a.budget i.copy-label.result j.copy-counters.result k.copy-headers.result z.result a.sectors.now a.written.now i.copy-label.new.0 i.copy-label.new.1.0 j.copy-counters.new.0 j.copy-counters.new.1.0 k.copy-headers.new.1.0 k.copy-headers.new.1.1.0 z.new.1.0 z.new.1.1.0
-    i.copy-label.ensures j.copy-counters.ensures (seals k) resets
+    let resets : MadeAppends a.e.to k.copy_headers-rest.result z.result (headers_on a.e (copies_below a.e.from Reset a.generations.now (heads s) a.e.from.zones)) k.copy_headers-rest.new.sectors k.copy_headers-rest.new.written z.new.sectors z.new.written = rw (sealed k).1 at z.ensures in
+    general_made a.e a.generations.now (heads s) s.requires.1.1 a.budget i.copy_label-rest.result j.copy_counters-rest.result k.copy_headers-rest.result z.result a.sectors.now a.written.now i.copy_label-rest.new.sectors i.copy_label-rest.new.written j.copy_counters-rest.new.sectors j.copy_counters-rest.new.written k.copy_headers-rest.new.sectors k.copy_headers-rest.new.written z.new.sectors z.new.written
+    i.copy_label-rest.ensures j.copy_counters-rest.ensures (seals k) resets
 
-pub copy-general-spec : {M : Type 1} → statement M
-copy-general-spec = tie.close (tie.spec (λ c κs. search rules) copy-counters-requires copy-headers-requires copy-headers-requires-2 (λ c. search rules) (λ c. search rules) returns)
+pub copy_general_spec : {M : Type 1} → statement M
+copy_general_spec = tie.close (tie.spec (λ c κs. search rules) copy-counters-requires copy-headers-requires copy-headers-requires-2 (λ c. search rules) (λ c. search rules) returns)

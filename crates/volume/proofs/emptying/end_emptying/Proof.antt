@@ -8,18 +8,18 @@ use Rattle.volume.proofs.emptying.end_emptying.Statement.{statement}
 use Rattle.volume.proofs.emptying.end_emptying.Tie as tie
 
 -- the tables keep their lengths
-closed : (k : tie.After-append-closing) → length k.append-closing.new.1.0 ≡ cells k.before.before.before.before.before.before.before.args.e.to
-closed k = k.append-closing.auto.1.0 ∙ k.before.before.before.before.before.before.before.requires.1.2
+closed : (k : tie.After-append_closing-closed) → length k.append_closing-closed.new.written ≡ cells k.args.e.to
+closed k = k.append_closing-closed.auto.written ∙ k.requires.1.2
 
-flush-all-requires : tie.Need-flush-all-requires
+flush-all-requires : tie.Need-flush_all-flushed-requires
 flush-all-requires c κs = let k = c.before.before.before.before.before.before in let s = k.before.before.before.before.before.before.before in (s.requires.0, (closed k, s.requires.1.3))
 
-reset-counted-requires : tie.Need-reset-counted-requires
+reset-counted-requires : tie.Need-reset_counted-requires
 reset-counted-requires c κs =
     let f = c.before.before.before.before in
-    let k = f.before.before.before.before.before.before.before in
+    let k = f.before.before.before.before.before.before.before.before in
     let s = k.before.before.before.before.before.before.before in
-    (s.requires.0, ((s.requires.1.0, omega arith), (closed k, f.flush-all.auto.1.0 ∙ s.requires.1.3)))
+    (s.requires.0, ((s.requires.1.0, omega arith), (closed k, f.flush_all-flushed.auto.durable ∙ s.requires.1.3)))
 
 returns : tie.Need-returns
 returns c =
@@ -28,8 +28,8 @@ returns c =
     let k = f.before.before.before.before.before.before.before in
     let s = k.before.before.before.before.before.before.before in
     let a = s.args in
-    end_made a.e a.parity s.requires.1.4 a.budget k.append-closing.result f.flush-all.result r.reset-counted.result a.sectors.now a.written.now a.durable.now k.append-closing.new.0 k.append-closing.new.1.0 f.flush-all.new.1.0 r.reset-counted.new.0 r.reset-counted.new.1.0
-    k.append-closing.ensures f.flush-all.ensures r.reset-counted.ensures
+    end_made a.e a.parity s.requires.1.4 a.budget k.append_closing-closed.result f.flush_all-flushed.result r.reset_counted.result a.sectors.now a.written.now a.durable.now k.append_closing-closed.new.sectors k.append_closing-closed.new.written f.flush_all-flushed.new.durable r.reset_counted.new.written r.reset_counted.new.durable
+    k.append_closing-closed.ensures f.flush_all-flushed.ensures r.reset_counted.ensures
 
-pub end-emptying-spec : {M : Type 1} → statement M
-end-emptying-spec = tie.close (tie.spec (λ c κs. search rules) flush-all-requires reset-counted-requires (λ c. search rules) (λ c. search rules) (λ c. search rules) returns)
+pub end_emptying_spec : {M : Type 1} → statement M
+end_emptying_spec = tie.close (tie.spec (λ c κs. search rules) flush-all-requires reset-counted-requires (λ c. search rules) (λ c. search rules) (λ c. search rules) returns)

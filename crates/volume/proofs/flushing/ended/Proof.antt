@@ -10,11 +10,11 @@ use Rattle.volume.proofs.flushing.ended.Tie as tie
 abbrev ending : tie.Start → Bool → Outcome
 ending s b = pick b (record { answer = Unfinished; state = s.args.old }) (record { answer = Finished; state = s.args.next })
 
-returns : tie.Need-returns
-returns c = sym (ap (ending c.before) (eq-eqb c.before.args.rest 0 c.if1.true))
+returns : tie.Need-returns-then-rest-eq0
+returns c = sym (ap (ending c.before) (eq-eqb c.args.rest 0 c.if-rest-eq0.true))
 
-returns-2 : tie.Need-returns-2
-returns-2 c = sym (ap (ending c.before) (ne_eqb c.before.args.rest 0 c.if1.false))
+returns-2 : tie.Need-returns
+returns-2 c = sym (ap (ending c.before) (ne_eqb c.args.rest 0 c.if-rest-eq0.false))
 
-pub ended-spec : {M : Type 1} → statement M
-ended-spec = tie.close (tie.spec returns returns-2)
+pub ended_spec : {M : Type 1} → statement M
+ended_spec = tie.close (tie.spec returns returns-2)

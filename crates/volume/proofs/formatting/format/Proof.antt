@@ -38,81 +38,81 @@ stores s = format_stores s.args.g (named_drives s.args.g (is_set s.args.named)) 
 abbrev next : tie.Start → State
 next s = state_held s.args.g.zones (with_shares (fresh_shares s.args.g (named_drives s.args.g (is_set s.args.named))) (format_state (left_out s.args.g (is_set s.args.named))))
 
-number : (c : tie.After-format-refusal) → c.format-refusal.result ≡ refusal c.before.before.before.before.before.before
-number c = let a = c.before.before.before.before.before.before.args in c.format-refusal.ensures ∙ format_refusal a.g a.named a.sectors.now a.written.now a.durable.now
+number : (c : tie.After-format_refusal-refusal) → c.format_refusal-refusal.result ≡ refusal c.before.before.before.before
+number c = let a = c.args in c.format_refusal-refusal.ensures ∙ format_refusal a.g a.named a.sectors.now a.written.now a.durable.now
 
-passed : (c : tie.Else1) → c.before.format-refusal.result ≡ 0
+passed : (c : tie.Else-refusal-ne0) → c.format_refusal-refusal.result ≡ 0
 passed c = omega arith
 
-accepted : (c : tie.Else1) → Valid c.before.before.before.before.before.before.before.args.g × (lengths_fit c.before.before.before.before.before.before.before.args.g (length c.before.before.before.before.before.before.before.args.sectors.now) (length c.before.before.before.before.before.before.before.args.written.now) (length c.before.before.before.before.before.before.before.args.durable.now) ≡ true)
-accepted c = let a = c.before.before.before.before.before.before.before.args in format_accepted a.g a.named (length a.sectors.now) a.written.now a.durable.now (sym c.before.format-refusal.ensures ∙ passed c)
+accepted : (c : tie.Else-refusal-ne0) → Valid c.args.g × (lengths_fit c.args.g (length c.args.sectors.now) (length c.args.written.now) (length c.args.durable.now) ≡ true)
+accepted c = let a = c.args in format_accepted a.g a.named (length a.sectors.now) a.written.now a.durable.now (sym c.format_refusal-refusal.ensures ∙ passed c)
 
-returns : tie.Need-returns
+returns : tie.Need-returns-then-refusal-ne0
 unfolding format_on
 returns c =
     let o = c.before.before in
-    let s = o.before.before.before.before.before.before in
+    let s = o.before.before.before.before in
     let a = s.args in
     let e = number o in
-    let (p, q) = storing_refused a.g (refusal s) (stores s) (next s) a.old a.count (given s) (λ k. c.before.if1.true (e ∙ k)) in
+    let (p, q) = storing_refused a.g (refusal s) (stores s) (next s) a.old a.count (given s) (λ k. c.if-refusal-ne0.true (e ∙ k)) in
     let refused : ℕ → Outcome = λ k. record { answer = Refused k; state = a.old } in
     (c.refused.ensures ∙ ap refused e ∙ sym p, sym q)
 
-present-drives-requires : tie.Need-present-drives-requires
+present-drives-requires : tie.Need-present_drives-here-requires
 present-drives-requires c κs = (accepted c).0
 
-left-out-requires : tie.Need-left-out-requires
+left-out-requires : tie.Need-left_out-lost-requires
 left-out-requires c κs = (accepted c.before).0
 
-format-stores-requires : tie.Need-format-stores-requires
+format-stores-requires : tie.Need-format_stores-rest-requires
 format-stores-requires c κs =
-    let a = c.before.before.before.before.before.before.before.before.before.before.before.before.args in
+    let a = c.args in
     let (v, f) = accepted c.before.before.before.before.before in
     let l = lengths_are a.g (length a.sectors.now) (length a.written.now) (length a.durable.now) f in
     let x = find_small (λ d. not (is_set a.named d)) a.g.drives (omega (arith, v.drives_most)) in
-    (v, (subst (λ (n : ℕ). n < 256) (sym c.before.before.before.left_out.ensures) x, l.0, l.1, l.2))
+    (v, (subst (λ (n : ℕ). n < 256) (sym c.left_out-lost.ensures) x, l.0, l.1, l.2))
 
 -- what was made, as the call's stores
-abbrev left : tie.After-format-stores → Tables
-left c = tables_of c.format-stores.new.0 c.format-stores.new.1.0 c.format-stores.new.1.1.0
+abbrev left : tie.After-format_stores-rest → Tables
+left c = tables_of c.format_stores-rest.new.sectors c.format_stores-rest.new.written c.format_stores-rest.new.durable
 
-here-is : (c : tie.After-present-drives) → let a = c.before.before.before.before.before.before.before.before.args in is_set c.present-drives.result ≡ named_drives a.g (is_set a.named)
-here-is c = let a = c.before.before.before.before.before.before.before.before.args in ap is_set c.present-drives.ensures ∙ named_is a.g a.named (accepted c.before).0
+here-is : (c : tie.After-present_drives-here) → let a = c.args in is_set c.present_drives-here.result ≡ named_drives a.g (is_set a.named)
+here-is c = let a = c.args in ap is_set c.present_drives-here.ensures ∙ named_is a.g a.named (accepted c.before).0
 
-lost-is : (c : tie.After-left-out) → c.left_out.result ≡ left_out c.before.before.before.before.before.before.before.before.before.args.g (is_set c.before.before.before.before.before.before.before.before.before.args.named)
+lost-is : (c : tie.After-left_out-lost) → c.left_out-lost.result ≡ left_out c.args.g (is_set c.args.named)
 lost-is c =
-    let s = c.before.before.before.before.before.before.before.before.before in
-    c.left_out.ensures ∙ left_out_named s.args.g s.args.named
+    let s = c.before.before.before.before.before.before.before in
+    c.left_out-lost.ensures ∙ left_out_named s.args.g s.args.named
 
-made : (c : tie.After-format-stores) → Made c.before.before.before.before.before.before.before.before.before.before.before.before.before.args.g (suc c.before.before.before.before.before.before.before.before.before.before.before.before.before.args.count) c.format-stores.result (stores c.before.before.before.before.before.before.before.before.before.before.before.before.before) (given c.before.before.before.before.before.before.before.before.before.before.before.before.before) (left c)
+made : (c : tie.After-format_stores-rest) → Made c.args.g (suc c.args.count) c.format_stores-rest.result (stores c.before.before.before.before.before.before.before.before.before.before.before) (given c.before.before.before.before.before.before.before.before.before.before.before) (left c)
 made c =
-    let a = c.before.before.before.before.before.before.before.before.before.before.before.before.before.args in
-    let f = c.format-stores in
+    let a = c.args in
+    let f = c.format_stores-rest in
     let t = tables_of a.sectors.now a.written.now a.durable.now in
     let e = ap₂ (λ (p : ℕ → Bool) (x : ℕ). format_stores a.g p x a.array) (here-is c.before.before.before.before.before) (lost-is c.before.before.before.before) in
     let b : a.count + 1 ≡ suc a.count = omega arith in
     subst (λ (l : ℕ). Made a.g l f.result (format_stores a.g (named_drives a.g (is_set a.named)) (left_out a.g (is_set a.named)) a.array) t (left c)) b
     (subst (λ (ss : List Store). Made a.g (a.count + 1) f.result ss t (left c)) e f.ensures)
 
-fresh-state-requires : tie.Need-fresh-state-requires
+fresh-state-requires : tie.Need-fresh_state-state-requires
 fresh-state-requires c κs = (accepted c.before.before.before.before.before.before.before.before.before.before.before.before).0
 
-returns-2 : tie.Need-returns-2
+returns-2 : tie.Need-returns
 unfolding format_on
 returns-2 c =
     let f = c.before.before.before.before.before.before.before.before in
     let x = f.before.before.before.before in
     let e = x.before.before in
-    let s = e.before.before.before.before.before.before.before in
+    let s = e.before.before.before.before.before in
     let a = s.args in
     let n = sym (number e.before) ∙ passed e in
-    let state : c.before.fresh-state.result ≡ next s = c.before.fresh-state.ensures ∙ ap₂ (λ (p : ℕ → Bool) (y : ℕ). state_held a.g.zones (with_shares (fresh_shares a.g p) (format_state y))) (here-is x.before) (lost-is x) in
-    let ending : State → Outcome = λ y. pick (eqb f.format-stores.result 0) (record { answer = Unfinished; state = a.old }) (record { answer = Finished; state = y }) in
-    let (p, q) = storing_ends a.g (refusal s) (stores s) (next s) a.old a.count (given s) f.format-stores.result (left f) n (made f) in
+    let state : c.fresh_state-state.result ≡ next s = c.fresh_state-state.ensures ∙ ap₂ (λ (p : ℕ → Bool) (y : ℕ). state_held a.g.zones (with_shares (fresh_shares a.g p) (format_state y))) (here-is x.before) (lost-is x) in
+    let ending : State → Outcome = λ y. pick (eqb f.format_stores-rest.result 0) (record { answer = Unfinished; state = a.old }) (record { answer = Finished; state = y }) in
+    let (p, q) = storing_ends a.g (refusal s) (stores s) (next s) a.old a.count (given s) f.format_stores-rest.result (left f) n (made f) in
     (c.ended.ensures ∙ ap ending state ∙ p, q)
 
-pub format-spec : {M : Type 1} → statement M
-format-spec =
+pub format_spec : {M : Type 1} → statement M
+format_spec =
     tie.close
     (tie.spec (λ c κs. search rules) (λ c κs. search rules) (λ c. search rules) (λ c. search rules) returns present-drives-requires left-out-requires (λ c. search rules)
     format-stores-requires fresh-state-requires (λ c κs. search rules) (λ c. search rules) (λ c. search rules) (λ c. search rules) returns-2)

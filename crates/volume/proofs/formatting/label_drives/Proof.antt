@@ -12,54 +12,54 @@ use Rattle.volume.specs.storing.Formatting.{drive_entries, entries_if, entries_m
 use Rattle.volume.proofs.formatting.label_drives.Statement.{statement}
 use Rattle.volume.proofs.formatting.label_drives.Tie as tie
 
-abbrev invariant-loop : tie.invariant-loop
+abbrev invariant-loop : tie.invariant-loop-d
 invariant-loop sectors₀ written₀ g lost array budget here n rest₀ d₀ sectors written rest d = (d ≤ n) × (length sectors ≡ length sectors₀) × (length written ≡ length written₀) × MadeAppends g budget rest (on_present (is_set here) (each_below (drive_entries g lost array) d)) sectors₀ written₀ sectors written
 
-abbrev decreases-loop : tie.decreases-loop
+abbrev decreases-loop : tie.decreases-loop-d
 decreases-loop sectors₀ written₀ g lost array budget here n rest₀ d₀ sectors written rest d = n - d
 
-loop-holds : tie.Need-loop-init invariant-loop decreases-loop
+loop-holds : tie.Need-loop-d-init invariant-loop decreases-loop
 loop-holds c = (omega arith, refl, refl, appends_nil _ _ _ _)
 
-array-read-present : tie.Need-array-read-present invariant-loop decreases-loop
+array-read-present : tie.Need-bounds-here-d invariant-loop decreases-loop
 array-read-present c = let s = c.before.before.before.before in omega (arith, s.requires.0.drives_most)
 
-label-drive-requires : tie.Need-label-drive-requires invariant-loop decreases-loop
+label-drive-requires : tie.Need-label_drive-rest-requires invariant-loop decreases-loop
 label-drive-requires c κs =
     let s = c.before.before.before.before.before.before in
-    let l = c.before.before.before.loop in
+    let l = c.loop-d in
     (s.requires.0, (omega arith, s.requires.1.0, l.invariant.1 ∙ s.requires.1.1, l.invariant.2 ∙ s.requires.1.2))
 
-add-d : tie.Need-overflow-add-d invariant-loop decreases-loop
+add-d : tie.Need-overflow_add-d invariant-loop decreases-loop
 add-d c = let s = c.before.before.before.before.before.before.before.before.before.before.before in omega (arith, s.requires.0.drives_most)
 
-loop-again : tie.Need-loop-preserved invariant-loop decreases-loop
+loop-again : tie.Need-loop-d-preserved invariant-loop decreases-loop
 loop-again c =
-    let a = c.before.before.before.before.before.before.before.before.before.before.before.args in
-    let l = c.before.before.before.before.before.before.before.before.loop in
-    let f = c.before.before.before.before.label-drive in
-    let p = is_set a.t4 in (
+    let a = c.args in
+    let l = c.loop-d in
+    let f = c.label_drive-rest in
+    let p = is_set a.here in (
       omega arith,
-      f.auto.0 ∙ l.invariant.1,
-      f.auto.1.0 ∙ l.invariant.2,
-      rw (add-one, entries_more a.g p a.lost a.array l.d) (appends_append a.g a.budget l.rest f.result (on_present p (each_below (drive_entries a.g a.lost a.array) l.d)) (entries_if a.g (p l.d) a.lost a.array l.d) a.sectors.now a.written.now l.sectors l.written f.new.0 f.new.1.0 l.invariant.3 f.ensures),
+      f.auto.sectors ∙ l.invariant.1,
+      f.auto.written ∙ l.invariant.2,
+      rw (add-one, entries_more a.g p a.lost a.array l.d) (appends_append a.g a.budget l.rest f.result (on_present p (each_below (drive_entries a.g a.lost a.array) l.d)) (entries_if a.g (p l.d) a.lost a.array l.d) a.sectors.now a.written.now l.sectors l.written f.new.sectors f.new.written l.invariant.3 f.ensures),
     )
 
-same_length : tie.Need-same-length invariant-loop decreases-loop
-same_length c = c.before.loop.invariant.1
+same_length : tie.Need-shape_of-sectors invariant-loop decreases-loop
+same_length c = c.loop-d.invariant.1
 
-same-length-2 : tie.Need-same-length-2 invariant-loop decreases-loop
-same-length-2 c = c.before.loop.invariant.2
+same-length-2 : tie.Need-shape_of-written invariant-loop decreases-loop
+same-length-2 c = c.loop-d.invariant.2
 
 returns : tie.Need-returns invariant-loop decreases-loop
 returns c =
     let s = c.before.before.before.before in
-    let l = c.before.loop in
+    let l = c.loop-d in
     let e : l.d ≡ s.args.g.drives = omega arith in
     rw e at l.invariant.3
 
-pub label-drives-spec : {M : Type 1} → statement M
-label-drives-spec =
+pub label_drives_spec : {M : Type 1} → statement M
+label_drives_spec =
     tie.close
     (tie.spec invariant-loop decreases-loop loop-holds array-read-present label-drive-requires add-d (λ c. omega arith) loop-again same_length same-length-2
     returns)

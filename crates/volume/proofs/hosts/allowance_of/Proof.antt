@@ -22,8 +22,8 @@ use Rattle.volume.proofs.hosts.allowance_of.Tie as tie
 abbrev asked : tie.Start → ℕ → Bool
 asked s most = ltb s.args.host 2 && leb s.args.end most
 
-asked_is : (d : tie.After-zone-sectors) → asked d.before d.zone-sectors.result ≡ asked d.before (zone_sectors d.before.args.g)
-asked_is d = ap (asked d.before) d.zone-sectors.ensures.0
+asked_is : (d : tie.After-zone_sectors-most) → asked d.before d.zone_sectors-most.result ≡ asked d.before (zone_sectors d.args.g)
+asked_is d = ap (asked d.before) d.zone_sectors-most.ensures.0
 
 -- the answer by that
 abbrev answer : tie.Start → Bool → Allowance
@@ -36,35 +36,35 @@ answer-is : (s : tie.Start) → let a = s.args in answer s (asked s (zone_sector
 unfolding allowance_of
 answer-is s = refl
 
-returns : tie.Need-returns
-returns c = let d = c.before in ap (answer d.before) (sym (sym (asked_is d) ∙ not-true (asked d.before d.zone-sectors.result) c.if1.true)) ∙ answer-is d.before
+returns : tie.Need-returns-then-not-asked
+returns c = let d = c.before in ap (answer d.before) (sym (sym (asked_is d) ∙ not-true (asked d.before d.zone_sectors-most.result) c.if-not-asked.true-raw)) ∙ answer-is d.before
 
 -- there is such a host, and the write stays in its zone
-passed : (e : tie.Else1) → asked e.before.before (zone_sectors e.before.before.args.g) ≡ true
-passed e = sym (asked_is e.before) ∙ not-false (asked e.before.before e.before.zone-sectors.result) e.if1.false
+passed : (e : tie.Else-not-asked) → asked e.before.before (zone_sectors e.args.g) ≡ true
+passed e = sym (asked_is e.before) ∙ not-false (asked e.before.before e.zone_sectors-most.result) e.if-not-asked.false-raw
 
-within : (e : tie.Else1) → let a = e.before.before.args in (a.host < 2) × (a.end ≤ zone_sectors a.g)
+within : (e : tie.Else-not-asked) → let a = e.args in (a.host < 2) × (a.end ≤ zone_sectors a.g)
 within e =
-    let a = e.before.before.args in
+    let a = e.args in
     let (p, q) = and_split (ltb a.host 2) (leb a.end (zone_sectors a.g)) (passed e) in
     (ltb-true a.host 2 p, leb-true a.end (zone_sectors a.g) q)
 
-entry-drive-requires : tie.Need-entry-drive-requires
+entry-drive-requires : tie.Need-entry_drive-entry-requires
 entry-drive-requires c κs = let e = c.before in let s = e.before.before in (s.requires.0, (s.requires.1, (within e).1))
 
-share-place-requires : tie.Need-share-place-requires
-share-place-requires c κs = let e = c.before.before in (omega (arith, c.entry-drive.ensures.1, e.before.before.requires.0.drives_most), (within e).0)
+share-place-requires : tie.Need-share_place-at-requires
+share-place-requires c κs = let e = c.before.before in (omega (arith, c.entry_drive-entry.ensures.1, e.requires.0.drives_most), (within e).0)
 
-returns-2 : tie.Need-returns-2
+returns-2 : tie.Need-returns
 returns-2 c =
     let e = c.before.before.before.before in
     let s = e.before.before in
     let a = s.args in
-    let place = c.before.share-place.ensures.0 ∙ ap (λ (d : EntryDrive). share_at d.drive a.host) c.before.before.entry-drive.ensures.0 in
-    ap₂ (λ (n i : ℕ). record { known = ltb a.host 2; refusal = n; share = get_or a.state.shares i 0 }) c.before.before.before.host-refusal.ensures place
+    let place = c.share_place-at.ensures.0 ∙ ap (λ (d : EntryDrive). share_at d.drive a.host) c.entry_drive-entry.ensures.0 in
+    ap₂ (λ (n i : ℕ). record { known = ltb a.host 2; refusal = n; share = get_or a.state.shares i 0 }) c.host_refusal-refusal.ensures place
     ∙ ap (answer s) (sym (passed e)) ∙ answer-is s
 
-pub allowance-of-spec : {M : Type 1} → statement M
-allowance-of-spec =
+pub allowance_of_spec : {M : Type 1} → statement M
+allowance_of_spec =
     tie.close
     (tie.spec (λ c κs. search rules) returns (λ c κs. search rules) entry-drive-requires share-place-requires (λ c. search rules) (λ c. search rules) (λ c. search rules) returns-2)

@@ -13,25 +13,25 @@ use Rattle.volume.proofs.hosts.limit_refusal.Tie as tie
 abbrev answer : tie.Start → Bool → Bool → ℕ
 answer s own all = pick own 18 (pick all 19 0)
 
-returns : tie.Need-returns
+returns : tie.Need-returns-then-limit-own
 returns c =
     let s = c.before.before in
     let a = s.args in
-    let reached = subst (λ (n : ℕ). n ≤ a.zones.own) c.before.limit-of.ensures c.if1.true in
+    let reached = subst (λ (n : ℕ). n ≤ a.zones.own) c.limit_of-limit.ensures c.if-limit-own.true in
     ap (λ (b : Bool). answer s b (not a.counted && leb most_open a.zones.all)) (sym (le-leb (limit_of a.host) a.zones.own reached))
 
-below : (c : tie.Else1) → let a = c.before.before.args in leb (limit_of a.host) a.zones.own ≡ false
+below : (c : tie.Else-limit-own) → let a = c.args in leb (limit_of a.host) a.zones.own ≡ false
 below c =
-    let a = c.before.before.args in
-    lt-leb (limit_of a.host) a.zones.own (subst (λ (n : ℕ). a.zones.own < n) c.before.limit-of.ensures c.if1.false)
+    let a = c.args in
+    lt-leb (limit_of a.host) a.zones.own (subst (λ (n : ℕ). a.zones.own < n) c.limit_of-limit.ensures c.if-limit-own.false)
 
-returns-2 : tie.Need-returns-2
-returns-2 c = ap₂ (answer c.before.before.before) (sym (below c.before)) (sym c.if2.true)
+returns-2 : tie.Need-returns-then-counted-all
+returns-2 c = ap₂ (answer c.before.before.before) (sym (below c.before)) (sym c.if-counted-all.true)
 
-returns-3 : tie.Need-returns-3
-returns-3 c = ap₂ (answer c.before.before.before) (sym (below c.before)) (sym c.if2.false)
+returns-3 : tie.Need-returns
+returns-3 c = ap₂ (answer c.before.before.before) (sym (below c.before)) (sym c.if-counted-all.false)
 
-pub limit-refusal-spec : {M : Type 1} → statement M
-limit-refusal-spec =
+pub limit_refusal_spec : {M : Type 1} → statement M
+limit_refusal_spec =
     tie.close
     (tie.spec (λ c κs. search rules) returns returns-2 returns-3)

@@ -3,13 +3,13 @@ use borrow.Author.Tests.{eq-eqb, ne_eqb}
 use Rattle.volume.proofs.hosts.owner_of.Statement.{statement}
 use Rattle.volume.proofs.hosts.owner_of.Tie as tie
 
-returns : tie.Need-returns
-returns c = rw (eq-eqb c.before.args.host 0 c.if1.true) refl
+returns : tie.Need-returns-then-host-eq0
+returns c = rw (eq-eqb c.args.host 0 c.if-host-eq0.true) refl
 
-returns-2 : tie.Need-returns-2
-returns-2 c = rw (ne_eqb c.before.args.host 0 c.if1.false) refl
+returns-2 : tie.Need-returns
+returns-2 c = rw (ne_eqb c.args.host 0 c.if-host-eq0.false) refl
 
-pub owner-of-spec : {M : Type 1} → statement M
-owner-of-spec =
+pub owner_of_spec : {M : Type 1} → statement M
+owner_of_spec =
     tie.close
     (tie.spec returns returns-2)

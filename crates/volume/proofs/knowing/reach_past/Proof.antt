@@ -11,25 +11,25 @@ use Rattle.volume.proofs.knowing.reach_past.Statement.{statement}
 use Rattle.volume.proofs.knowing.reach_past.Tie as tie
 
 -- the test is whether unit k is a's own or held
-tested : (c : tie.After-is-held) → eqb c.before.before.before.before.before.before.args.k c.before.before.before.before.unit-index.result || c.is_held_lem.result ≡ row_held c.before.before.before.before.before.before.args.g c.before.before.before.before.before.before.args.here c.before.before.before.before.before.before.args.written.now c.before.before.before.before.before.before.args.z c.before.before.before.before.before.before.args.a c.before.before.before.before.before.before.args.k
+tested : (c : tie.After-is_held-held) → eqb c.args.k c.unit_index-own.result || c.is_held-held.result ≡ row_held c.args.g c.args.here c.args.written.now c.args.z c.args.a c.args.k
 tested c =
-    let a = c.before.before.before.before.before.before.args in
-    ap₂ (λ (u : ℕ) (b : Bool). eqb a.k u || b) c.before.before.before.before.unit-index.ensures.0
-    (c.is_held_lem.ensures ∙ ap₂ (λ (d x : ℕ). held_on a.g a.here a.written.now a.z d x) (c.before.before.unit-drive.ensures.0 ∙ ap (λ (p : ℕ). unit_drive a.g.drives p a.k) c.before.before.before.parity-of.ensures.0) c.before.sector-of.ensures)
+    let a = c.args in
+    ap₂ (λ (u : ℕ) (b : Bool). eqb a.k u || b) c.unit_index-own.ensures.0
+    (c.is_held-held.ensures ∙ ap₂ (λ (d x : ℕ). held_on a.g a.here a.written.now a.z d x) (c.unit_drive-d.ensures.0 ∙ ap (λ (p : ℕ). unit_drive a.g.drives p a.k) c.parity_of-p.ensures.0) c.sector_of-x.ensures)
 
-returns : tie.Need-returns
+returns : tie.Need-returns-then-k-own
 returns c =
-    let a = c.before.before.before.before.before.before.before.args in
-    sym (ap (λ (b : Bool). pick b a.reach (min a.reach (row_address a.g.drives a.g.unit a.a a.k))) (sym (tested c.before) ∙ c.if1.true))
+    let a = c.args in
+    sym (ap (λ (b : Bool). pick b a.reach (min a.reach (row_address a.g.drives a.g.unit a.a a.k))) (sym (tested c.before) ∙ c.if-k-own.true))
 
-returns-2 : tie.Need-returns-2
+returns-2 : tie.Need-returns
 returns-2 c =
-    let a = c.before.before.before.before.before.before.before.before.before.args in
-    c.min.ensures ∙ ap (λ (b : ℕ). min a.reach b) c.before.row-address.ensures
-    ∙ sym (ap (λ (b : Bool). pick b a.reach (min a.reach (row_address a.g.drives a.g.unit a.a a.k))) (sym (tested c.before.before.before) ∙ c.before.before.if1.false))
+    let a = c.args in
+    c.min.ensures ∙ ap (λ (b : ℕ). min a.reach b) c.row_address-b.ensures
+    ∙ sym (ap (λ (b : Bool). pick b a.reach (min a.reach (row_address a.g.drives a.g.unit a.a a.k))) (sym (tested c.before.before.before) ∙ c.if-k-own.false))
 
-pub reach-past-spec : {M : Type 1} → statement M
-reach-past-spec =
+pub reach_past_spec : {M : Type 1} → statement M
+reach_past_spec =
     tie.close
     (tie.spec (λ c κs. search rules) (λ c κs. search rules) (λ c κs. search rules) (λ c κs. search rules) (λ c κs. search rules) returns
     (λ c κs. search rules) (λ c κs. search rules) returns-2)

@@ -9,38 +9,38 @@ use Rattle.volume.specs.looking.Knowing.{read_device}
 use Rattle.volume.proofs.knowing.seal_limit.Statement.{statement}
 use Rattle.volume.proofs.knowing.seal_limit.Tie as tie
 
-abbrev invariant-loop : tie.invariant-loop
+abbrev invariant-loop : tie.invariant-loop-d
 invariant-loop sectors written z generation zone n limit₀ d₀ limit d = (d ≤ n) × (limit ≡ seal_limit_below zone.geometry (is_set zone.here) (read_device zone.geometry sectors written) zone.number zone.generation d) × (limit ≤ zone_sectors zone.geometry)
 
-abbrev decreases-loop : tie.decreases-loop
+abbrev decreases-loop : tie.decreases-loop-d
 decreases-loop sectors written z generation zone n limit₀ d₀ limit d = n - d
 
-zone-sectors-requires : tie.Need-zone-sectors-requires invariant-loop decreases-loop
-zone-sectors-requires c κs = c.before.before.requires.0
+zone-sectors-requires : tie.Need-zone_sectors-limit-requires invariant-loop decreases-loop
+zone-sectors-requires c κs = c.requires.0
 
-loop-holds : tie.Need-loop-init invariant-loop decreases-loop
-loop-holds c = (omega arith, c.zone-sectors.ensures.0, omega (arith, c.zone-sectors.ensures.0))
+loop-holds : tie.Need-loop-d-init invariant-loop decreases-loop
+loop-holds c = (omega arith, c.zone_sectors-limit.ensures.0, omega (arith, c.zone_sectors-limit.ensures.0))
 
-seal-of-requires : tie.Need-seal-of-requires invariant-loop decreases-loop
+seal-of-requires : tie.Need-seal_of-limit-requires invariant-loop decreases-loop
 seal-of-requires c κs = let s = c.before.before.before.before.before in (s.requires.0, (s.requires.1, omega arith))
 
-add-d : tie.Need-overflow-add-d invariant-loop decreases-loop
-add-d c = omega (arith, c.before.before.before.before.before.before.requires.0.drives_most)
+add-d : tie.Need-overflow_add-d invariant-loop decreases-loop
+add-d c = omega (arith, c.requires.0.drives_most)
 
-loop-again : tie.Need-loop-preserved invariant-loop decreases-loop
+loop-again : tie.Need-loop-d-preserved invariant-loop decreases-loop
 loop-again c =
-    let l = c.before.before.loop in
-    let f = c.seal-of in
+    let l = c.loop-d in
+    let f = c.seal_of-limit in
     (omega arith, f.ensures.0 ∙ rw (l.invariant.1, add-one) refl, omega (arith, f.ensures.1, l.invariant.2))
 
 returns : tie.Need-returns invariant-loop decreases-loop
 unfolding seal_limit
 returns c =
-    let l = c.before.loop in
-    let e : l.d ≡ c.before.before.before.before.before.args.g.drives = omega arith in
+    let l = c.loop-d in
+    let e : l.d ≡ c.args.g.drives = omega arith in
     (l.invariant.1 ∙ rw e refl, l.invariant.2)
 
-pub seal-limit-spec : {M : Type 1} → statement M
-seal-limit-spec =
+pub seal_limit_spec : {M : Type 1} → statement M
+seal_limit_spec =
     tie.close
     (tie.spec invariant-loop decreases-loop zone-sectors-requires loop-holds seal-of-requires add-d (λ c. omega arith) loop-again returns)

@@ -5,25 +5,25 @@ use borrow.Author.Rules.{rules}
 use Rattle.volume.proofs.knowing.source_of.Statement.{statement}
 use Rattle.volume.proofs.knowing.source_of.Tie as tie
 
-returns : tie.Need-returns
+returns : tie.Need-returns-then-held
 unfolding source_of
-returns c = rw (sym c.before.own_held.ensures ∙ c.if1.true) refl
+returns c = rw (sym c.own_held-held.ensures ∙ c.if-held.true) refl
 
-returns-2 : tie.Need-returns-2
+returns-2 : tie.Need-returns-then-row
 unfolding source_of
-returns-2 c = rw (sym c.before.before.before.own_held.ensures ∙ c.before.before.if1.false, sym c.before.row-complete.ensures ∙ c.if2.true) refl
+returns-2 c = rw (sym c.own_held-held.ensures ∙ c.if-held.false, sym c.row_complete-row.ensures ∙ c.if-row.true) refl
 
-returns-3 : tie.Need-returns-3
+returns-3 : tie.Need-returns-then-place-eq0
 unfolding source_of
 returns-3 c =
-    rw (sym c.before.before.before.before.before.own_held.ensures ∙ c.before.before.before.before.if1.false, sym c.before.before.before.row-complete.ensures ∙ c.before.before.if2.false, sym c.before.serving-place.ensures ∙ c.if3.true) refl
+    rw (sym c.own_held-held.ensures ∙ c.if-held.false, sym c.row_complete-row.ensures ∙ c.if-row.false, sym c.serving_place-place.ensures ∙ c.if-place-eq0.true) refl
 
-returns-4 : tie.Need-returns-4
+returns-4 : tie.Need-returns
 unfolding source_of
 returns-4 c =
-    rw (sym c.before.before.before.before.before.own_held.ensures ∙ c.before.before.before.before.if1.false, sym c.before.before.before.row-complete.ensures ∙ c.before.before.if2.false, ← c.before.serving-place.ensures, ne_eqb c.before.serving-place.result 0 c.if3.false) refl
+    rw (sym c.own_held-held.ensures ∙ c.if-held.false, sym c.row_complete-row.ensures ∙ c.if-row.false, ← c.serving_place-place.ensures, ne_eqb c.serving_place-place.result 0 c.if-place-eq0.false) refl
 
-pub source-of-spec : {M : Type 1} → statement M
-source-of-spec =
+pub source_of_spec : {M : Type 1} → statement M
+source_of_spec =
     tie.close
     (tie.spec (λ c κs. search rules) returns (λ c κs. search rules) returns-2 (λ c κs. search rules) returns-3 returns-4)

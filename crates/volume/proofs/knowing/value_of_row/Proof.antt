@@ -12,37 +12,37 @@ use Rattle.volume.proofs.knowing.value_of_row.Statement.{statement}
 use Rattle.volume.proofs.knowing.value_of_row.Tie as tie
 
 -- the numbers are those of the row of a
-abbrev place : tie.After-unit-index → RowPlace
+abbrev place : tie.After-unit_index → RowPlace
 place c =
-    let a = c.before.before.before.before.before.before.args in
-    record { zone = a.z; parity = c.before.before.before.parity-of.result; sector = c.before.before.sector-of.result; start = c.before.row-address.result; own = c.unit-index.result; end = a.end }
+    let a = c.args in
+    record { zone = a.z; parity = c.parity_of-p.result; sector = c.sector_of.result; start = c.row_address.result; own = c.unit_index.result; end = a.end }
 
-place_is : (c : tie.After-unit-index) → let a = c.before.before.before.before.before.before.args in place c ≡ row_of a.g a.z a.a a.end
+place_is : (c : tie.After-unit_index) → let a = c.args in place c ≡ row_of a.g a.z a.a a.end
 place_is c =
-    let a = c.before.before.before.before.before.before.args in
-    row_is a.g a.z a.a a.end c.before.before.before.parity-of.result c.before.before.sector-of.result c.before.row-address.result c.unit-index.result
-    c.before.before.before.parity-of.ensures.0 c.before.before.sector-of.ensures c.before.row-address.ensures c.unit-index.ensures.0
+    let a = c.args in
+    row_is a.g a.z a.a a.end c.parity_of-p.result c.sector_of.result c.row_address.result c.unit_index.result
+    c.parity_of-p.ensures.0 c.sector_of.ensures c.row_address.ensures c.unit_index.ensures.0
 
-xor-row-requires : tie.Need-xor-row-requires
+xor-row-requires : tie.Need-xor_row-requires
 xor-row-requires c κs =
     let s = c.before.before.before.before.before.before.before.before.before.before.before in
     let a = s.args in
     let fits = row_fits a.g a.z a.a a.end s.requires.0 s.requires.1.0 s.requires.1.1 in
-    (s.requires.0, (subst (RowFits a.g) (sym (place_is c.before.before.before.before.before)) fits, s.requires.1.4, c.before.before.before.read-sector.auto.1.1.1.1.1.0 ∙ s.requires.1.5))
+    (s.requires.0, (subst (RowFits a.g) (sym (place_is c.before.before.before.before.before)) fits, s.requires.1.4, c.read_sector.auto.out ∙ s.requires.1.5))
 
 returns : tie.Need-returns
 returns c =
     let u = c.before.before.before.before.before.before.before.before in
-    let a = c.before.before.before.before.before.before.before.before.before.before.before.before.before.before.args in
+    let a = c.args in
     let row = row_xor a.g a.sectors.now a.z a.a a.end in
     let parity = sector_at a.g a.sectors.now (parity_of a.g.drives a.g.unit a.z a.a) a.zone a.n in
-    c.before.before.xor-row.ensures
-    ∙ ap₂ xor_bytes (c.before.before.before.before.before.before.read-sector.ensures ∙ ap (λ (p : ℕ). sector_at a.g a.sectors.now p a.zone a.n) u.before.before.before.parity-of.ensures.0)
+    c.xor_row.ensures
+    ∙ ap₂ xor_bytes (c.read_sector.ensures ∙ ap (λ (p : ℕ). sector_at a.g a.sectors.now p a.zone a.n) u.parity_of-p.ensures.0)
     (ap (λ (r : RowPlace). others_below a.g a.sectors.now r (a.g.drives - 1)) (place_is u) ∙ others_are a.g a.sectors.now a.z a.a a.end)
     ∙ xor_bytes_comm parity row
 
-pub value-of-row-spec : {M : Type 1} → statement M
-value-of-row-spec =
+pub value_of_row_spec : {M : Type 1} → statement M
+value_of_row_spec =
     tie.close
     (tie.spec (λ c κs. search rules) (λ c κs. search rules) (λ c κs. search rules) (λ c κs. search rules) (λ c κs. search rules) xor-row-requires
     (λ c. search rules) returns)

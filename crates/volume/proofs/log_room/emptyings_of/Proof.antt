@@ -4,7 +4,7 @@ use Rattle.volume.proofs.log_room.emptyings_of.Statement.{statement}
 use Rattle.volume.proofs.log_room.emptyings_of.Tie as tie
 
 returns : tie.Need-returns
-returns c = rw c.move-logs.ensures refl
+returns c = rw c.move_logs-to.ensures refl
 
-pub emptyings-of-spec : {M : Type 1} → statement M
-emptyings-of-spec = tie.close (tie.spec (λ c κs. search rules) returns)
+pub emptyings_of_spec : {M : Type 1} → statement M
+emptyings_of_spec = tie.close (tie.spec (λ c κs. search rules) returns)

@@ -13,35 +13,35 @@ use Rattle.volume.proofs.log_room.general_on.Tie as tie
 abbrev newSize : tie.Start → ℕ
 newSize s = let a = s.args in new_general_size a.asked.places.geometry (by_generations a.generations.now) (general_heads a.asked.places.geometry (read_device a.asked.places.geometry a.sectors.now a.pointers.now) a.drive)
 
-abbrev to_start : tie.After-room-unsized → tie.Start
+abbrev to_start : tie.After-room_unsized-room → tie.Start
 to_start w = w.before.before.before.before.before
 
-returns : tie.Need-returns
+returns : tie.Need-returns-then-full-lacks
 unfolding general_room_at
 returns c =
     let w = c.before in
     let s = to_start w in
     let a = s.args in
-    room_done a.asked (newSize s) a.sectors.now a.written.now a.pointers.now a.drive w.room-unsized.result w.room-unsized.ensures c.if1.true
+    room_done a.asked (newSize s) a.sectors.now a.written.now a.pointers.now a.drive w.room_unsized-room.result w.room_unsized-room.ensures c.if-full-lacks.true
 
-general-size-requires : tie.Need-general-size-requires
+general-size-requires : tie.Need-general_size-size-requires
 general-size-requires c κs =
-    let s = to_start c.before in
+    let s = to_start c.before.before in
     let a = s.args in
-    let k = s.pre.1.0 in
+    let k = s.requires.1.0 in
     let at = placed_zones a.asked.first a.asked.places a.sectors.now a.written.now a.pointers.now k in
-    (placed_valid a.asked.first a.asked.places a.sectors.now a.written.now a.pointers.now k s.pre.0, (placed_sized a.asked.first a.asked.places a.sectors.now a.written.now a.pointers.now k, rw (placed_drives a.asked.first a.asked.places a.sectors.now a.written.now a.pointers.now k) s.pre.1.1, rw at s.pre.1.2))
+    (placed_valid a.asked.first a.asked.places a.sectors.now a.written.now a.pointers.now k s.requires.0, (placed_sized a.asked.first a.asked.places a.sectors.now a.written.now a.pointers.now k, rw (placed_drives a.asked.first a.asked.places a.sectors.now a.written.now a.pointers.now k) s.requires.1.1, rw at s.requires.1.2))
 
-returns-2 : tie.Need-returns-2
+returns-2 : tie.Need-returns
 unfolding general_room_at
 returns-2 c =
     let e = c.before.before in
-    let w = e.before in
+    let w = e.before.before in
     let s = to_start w in
     let a = s.args in
-    let size = c.before.general-size in
-    let same = placed_capacity a.asked.first a.asked.places a.sectors.now a.written.now a.pointers.now s.pre.1.0 in
-    c.with_size.ensures ∙ room_sized a.asked (newSize s) a.sectors.now a.written.now a.pointers.now a.drive w.room-unsized.result w.room-unsized.ensures a.asked.places.geometry.capacity size.result same size.ensures e.if1.false
+    let size = c.general_size-size in
+    let same = placed_capacity a.asked.first a.asked.places a.sectors.now a.written.now a.pointers.now s.requires.1.0 in
+    c.with_size.ensures ∙ room_sized a.asked (newSize s) a.sectors.now a.written.now a.pointers.now a.drive w.room_unsized-room.result w.room_unsized-room.ensures a.asked.places.geometry.capacity size.result same size.ensures e.if-full-lacks.false
 
-pub general-on-spec : {M : Type 1} → statement M
-general-on-spec = tie.close (tie.spec (λ c κs. search rules) returns general-size-requires (λ c κs. search rules) returns-2)
+pub general_on_spec : {M : Type 1} → statement M
+general_on_spec = tie.close (tie.spec (λ c κs. search rules) returns general-size-requires (λ c κs. search rules) returns-2)

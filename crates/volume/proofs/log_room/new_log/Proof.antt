@@ -13,21 +13,21 @@ use Rattle.volume.proofs.log_room.new_log.Statement.{statement}
 use Rattle.volume.proofs.log_room.new_log.Tie as tie
 
 -- the drive lacks a kind, or has both
-lacks-kind : (w : tie.After-kind-lacks2) → let a = w.before.before.before.before.before.args in (w.before.kind-lacks.result || w.kind-lacks2.result) ≡ (kind_lacks_at a.asked.places false a.drive || kind_lacks_at a.asked.places true a.drive)
-lacks-kind w = ap₂ (λ (x y : Bool). x || y) w.before.kind-lacks.ensures w.kind-lacks2.ensures
+lacks-kind : (w : tie.After-kind_lacks-no_parity) → let a = w.args in (w.kind_lacks-no_general.result || w.kind_lacks-no_parity.result) ≡ (kind_lacks_at a.asked.places false a.drive || kind_lacks_at a.asked.places true a.drive)
+lacks-kind w = ap₂ (λ (x y : Bool). x || y) w.kind_lacks-no_general.ensures w.kind_lacks-no_parity.ensures
 
-returns : tie.Need-returns
+returns : tie.Need-returns-then-no_general-no_parity
 unfolding lost_at
-returns c = rw (sym (lacks-kind c.before) ∙ c.if1.true) refl
+returns c = rw (sym (lacks-kind c.before) ∙ c.if-no_general-no_parity.true) refl
 
-log-generation-requires : tie.Need-log-generation-requires
+log-generation-requires : tie.Need-log_generation-old-requires
 log-generation-requires c κs =
     let s = c.before.before.before.before.before.before in
     let a = s.args in
     let k = s.requires.1.0 in
-    (s.requires.0, (k.sized, s.requires.1.1, kind_claimed a.asked.first a.asked.places a.sectors.now a.written.now a.pointers.now k a.drive s.requires.1.1 (sym (lacks-kind c.before) ∙ c.if1.false) a.asked.parity))
+    (s.requires.0, (k.sized, s.requires.1.1, kind_claimed a.asked.first a.asked.places a.sectors.now a.written.now a.pointers.now k a.drive s.requires.1.1 (sym (lacks-kind c.before.before) ∙ c.if-no_general-no_parity.false) a.asked.parity))
 
-zone-pointer-requires : tie.Need-zone-pointer-requires
+zone-pointer-requires : tie.Need-zone_pointer-spare-requires
 zone-pointer-requires c κs =
     let s = c.before.before.before.before.before.before.before in
     let a = s.args in
@@ -35,35 +35,35 @@ zone-pointer-requires c κs =
     (placed_valid a.asked.first a.asked.places a.sectors.now a.written.now a.pointers.now k s.requires.0, (rw (placed_drives a.asked.first a.asked.places a.sectors.now a.written.now a.pointers.now k) s.requires.1.1, omega arith, placed_cells a.asked.first a.asked.places a.sectors.now a.written.now a.pointers.now k))
 
 -- the rest of what makes it stay full
-lost : (w : tie.After-zone-pointer) → let a = w.before.before.before.before.before.before.before.before.args in
-    (eqb w.before.log-generation.result worn_generation || (not a.asked.clears_spares && ltb 0 w.zone-pointer.result))
+lost : (w : tie.After-zone_pointer-spare) → let a = w.args in
+    (eqb w.log_generation-old.result worn_generation || (not a.asked.clears_spares && ltb 0 w.zone_pointer-spare.result))
     ≡ (ltb worn_generation (claim_at a.asked a.sectors.now a.written.now a.drive) || (not a.asked.clears_spares && ltb 0 (zone_pointer a.asked.places.geometry a.pointers.now a.drive spare_zone)))
 lost w =
-    let a = w.before.before.before.before.before.before.before.before.args in
-    let l = w.before.log-generation in
+    let a = w.args in
+    let l = w.log_generation-old in
     let h : l.result < 2 ^ 64 = omega arith in
-    ap₂ (λ (x y : Bool). x || y) (worn_claim l.result (claim_at a.asked a.sectors.now a.written.now a.drive) h l.ensures) (ap (λ (n : ℕ). not a.asked.clears_spares && ltb 0 n) w.zone-pointer.ensures.0)
+    ap₂ (λ (x y : Bool). x || y) (worn_claim l.result (claim_at a.asked a.sectors.now a.written.now a.drive) h l.ensures) (ap (λ (n : ℕ). not a.asked.clears_spares && ltb 0 n) w.zone_pointer-spare.ensures.0)
 
-both : (c : tie.Else1) → let a = c.before.before.before.before.before.before.args in (kind_lacks_at a.asked.places false a.drive || kind_lacks_at a.asked.places true a.drive) ≡ false
-both c = sym (lacks-kind c.before) ∙ c.if1.false
+both : (c : tie.Else-no_general-no_parity) → let a = c.args in (kind_lacks_at a.asked.places false a.drive || kind_lacks_at a.asked.places true a.drive) ≡ false
+both c = sym (lacks-kind c.before) ∙ c.if-no_general-no_parity.false
 
-returns-2 : tie.Need-returns-2
+returns-2 : tie.Need-returns-then-old-clears
 unfolding lost_at worn_generation
-returns-2 c = rw (both c.before.before.before, sym (lost c.before) ∙ c.if2.true) refl
+returns-2 c = rw (both c.before.before.before.before.before, sym (lost c.before) ∙ c.if-old-clears.true) refl
 
-add-generation : tie.Need-overflow-add-generation
+add-generation : tie.Need-overflow_add-generation
 unfolding worn_generation
 add-generation c =
     let z = c.before in
-    let a = z.before.before.before.before.before.before.before.before.args in
-    let l = z.before.log-generation in
+    let a = z.args in
+    let l = z.log_generation-old in
     let h : l.result < 2 ^ 64 = omega arith in
-    let n = eqb-false l.result 18446744073709551615 (either (eqb l.result 18446744073709551615) (not a.asked.clears_spares && ltb 0 z.zone-pointer.result) c.if2.false).0 in
+    let n = eqb-false l.result 18446744073709551615 (either (eqb l.result 18446744073709551615) (not a.asked.clears_spares && ltb 0 z.zone_pointer-spare.result) c.if-old-clears.false).0 in
     omega (arith, h, n)
 
-returns-3 : tie.Need-returns-3
+returns-3 : tie.Need-returns
 unfolding lost_at worn_generation
-returns-3 c = rw (both c.before.before.before, sym (lost c.before) ∙ c.if2.false, add-one, c.before.before.log-generation.ensures) refl
+returns-3 c = rw (both c.before.before.before.before.before, sym (lost c.before) ∙ c.if-old-clears.false, add-one, c.log_generation-old.ensures) refl
 
-pub new-log-spec : {M : Type 1} → statement M
-new-log-spec = tie.close (tie.spec (λ c κs. search rules) (λ c κs. search rules) returns log-generation-requires zone-pointer-requires returns-2 add-generation returns-3)
+pub new_log_spec : {M : Type 1} → statement M
+new_log_spec = tie.close (tie.spec (λ c κs. search rules) (λ c κs. search rules) returns log-generation-requires zone-pointer-requires returns-2 add-generation returns-3)

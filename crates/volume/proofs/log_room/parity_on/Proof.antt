@@ -12,22 +12,22 @@ use Rattle.volume.proofs.log_room.parity_on.Tie as tie
 abbrev newSize : tie.Start → ℕ
 newSize s = let a = s.args in new_parity_size a.asked.first (by_pointers a.points.now) a.drive
 
-abbrev to_start : tie.After-room-unsized → tie.Start
+abbrev to_start : tie.After-room_unsized-room → tie.Start
 to_start w = w.before.before.before.before.before
 
-done : (w : tie.After-room-unsized) → is_done w.room-unsized.result ≡ true → let a = (to_start w).args in w.room-unsized.result ≡ parity_room_at a.asked a.points.now a.sectors.now a.written.now a.pointers.now a.drive
+done : (w : tie.After-room_unsized-room) → is_done w.room_unsized-room.result ≡ true → let a = (to_start w).args in w.room_unsized-room.result ≡ parity_room_at a.asked a.points.now a.sectors.now a.written.now a.pointers.now a.drive
 unfolding parity_room_at
-done w h = let s = to_start w in let a = s.args in room_done a.asked (newSize s) a.sectors.now a.written.now a.pointers.now a.drive w.room-unsized.result w.room-unsized.ensures h
+done w h = let s = to_start w in let a = s.args in room_done a.asked (newSize s) a.sectors.now a.written.now a.pointers.now a.drive w.room_unsized-room.result w.room_unsized-room.ensures h
 
-returns-2 : tie.Need-returns-2
+returns-2 : tie.Need-returns
 unfolding parity_room_at
 returns-2 c =
     let e = c.before.before.before in
     let w = e.before in
     let s = to_start w in
     let a = s.args in
-    let size = c.before.parity-size in
-    c.with_size.ensures ∙ room_sized a.asked (newSize s) a.sectors.now a.written.now a.pointers.now a.drive w.room-unsized.result w.room-unsized.ensures a.asked.first.capacity size.result refl size.ensures e.if1.false
+    let size = c.parity_size-size in
+    c.with_size.ensures ∙ room_sized a.asked (newSize s) a.sectors.now a.written.now a.pointers.now a.drive w.room_unsized-room.result w.room_unsized-room.ensures a.asked.first.capacity size.result refl size.ensures e.if-full-lacks.false
 
-pub parity-on-spec : {M : Type 1} → statement M
-parity-on-spec = tie.close (tie.spec (λ c κs. search rules) (λ c. done c.before c.if1.true) (λ c κs. search rules) (λ c κs. search rules) returns-2)
+pub parity_on_spec : {M : Type 1} → statement M
+parity_on_spec = tie.close (tie.spec (λ c κs. search rules) (λ c. done c.before c.if-full-lacks.true) (λ c κs. search rules) (λ c κs. search rules) returns-2)

@@ -5,27 +5,27 @@ use borrow.Author.Rules.{rules}
 use Rattle.volume.proofs.log_room.room_unsized.Statement.{statement}
 use Rattle.volume.proofs.log_room.room_unsized.Tie as tie
 
-lacks-room-requires : tie.Need-lacks-room-requires
+lacks-room-requires : tie.Need-lacks_room-lacks-requires
 lacks-room-requires c κs =
     let s = c.before.before.before in
     let a = s.args in
     let k = s.requires.1.0 in
     (placed_valid a.asked.first a.asked.places a.sectors.now a.written.now a.pointers.now k s.requires.0, (rw (placed_drives a.asked.first a.asked.places a.sectors.now a.written.now a.pointers.now k) s.requires.1.1, placed_cells a.asked.first a.asked.places a.sectors.now a.written.now a.pointers.now k))
 
-abbrev to_start : tie.After-lacks-room → tie.Start
+abbrev to_start : tie.After-lacks_room-lacks → tie.Start
 to_start w = w.before.before.before.before
 
-returns : tie.Need-returns
+returns : tie.Need-returns-then-not-lacks
 returns c =
     let w = c.before in
     let a = (to_start w).args in
-    room_none (lacks_at a.asked a.pointers.now a.drive) (lost_at a.asked a.sectors.now a.written.now a.pointers.now a.drive) (claim_at a.asked a.sectors.now a.written.now a.drive) (sym w.lacks-room.ensures ∙ not-true w.lacks-room.result c.if1.true)
+    room_none (lacks_at a.asked a.pointers.now a.drive) (lost_at a.asked a.sectors.now a.written.now a.pointers.now a.drive) (claim_at a.asked a.sectors.now a.written.now a.drive) (sym w.lacks_room-lacks.ensures ∙ not-true w.lacks_room-lacks.result c.if-not-lacks.true-raw)
 
-returns-2 : tie.Need-returns-2
+returns-2 : tie.Need-returns
 returns-2 c =
     let w = c.before.before in
     let a = (to_start w).args in
-    c.new-log.ensures ∙ room_new (lacks_at a.asked a.pointers.now a.drive) (lost_at a.asked a.sectors.now a.written.now a.pointers.now a.drive) (claim_at a.asked a.sectors.now a.written.now a.drive) (sym w.lacks-room.ensures ∙ not-false w.lacks-room.result c.before.if1.false)
+    c.new_log.ensures ∙ room_new (lacks_at a.asked a.pointers.now a.drive) (lost_at a.asked a.sectors.now a.written.now a.pointers.now a.drive) (claim_at a.asked a.sectors.now a.written.now a.drive) (sym w.lacks_room-lacks.ensures ∙ not-false w.lacks_room-lacks.result c.if-not-lacks.false-raw)
 
-pub room-unsized-spec : {M : Type 1} → statement M
-room-unsized-spec = tie.close (tie.spec lacks-room-requires returns (λ c κs. search rules) returns-2)
+pub room_unsized_spec : {M : Type 1} → statement M
+room_unsized_spec = tie.close (tie.spec lacks-room-requires returns (λ c κs. search rules) returns-2)

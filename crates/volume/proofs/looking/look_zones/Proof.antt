@@ -14,28 +14,28 @@ use Rattle.volume.proofs.looking.look_zones.Statement.{statement}
 use Rattle.volume.proofs.looking.look_zones.Tie as tie
 use Rattle.volume.specs.checks.Records.{blank_look}
 
-abbrev invariant-loop : tie.invariant-loop
+abbrev invariant-loop : tie.invariant-loop-z
 invariant-loop sectors written g here n zones₀ z₀ zones z = (z ≤ n) × (length zones ≡ 16) × (zones ≡ tabulate (λ (i : ℕ). zone_look_of (zone_shown g (is_set here) (read_device g sectors written) i)) z ++ replicate (16 - z) blank_look)
 
-abbrev decreases-loop : tie.decreases-loop
+abbrev decreases-loop : tie.decreases-loop-z
 decreases-loop sectors written g here n zones₀ z₀ zones z = n - z
 
-look-zone-requires : tie.Need-look-zone-requires invariant-loop decreases-loop
-look-zone-requires c κs = let s = c.before.before.before.before in let a = s.args in (s.requires.0, lookable_zone a.g a.here a.sectors.now a.written.now c.before.loop.z s.requires.1 (omega arith))
+look-zone-requires : tie.Need-look_zone-shown-requires invariant-loop decreases-loop
+look-zone-requires c κs = let s = c.before.before.before.before in let a = s.args in (s.requires.0, lookable_zone a.g a.here a.sectors.now a.written.now c.loop-z.z s.requires.1 (omega arith))
 
-loop-again : tie.Need-loop-preserved invariant-loop decreases-loop
+loop-again : tie.Need-loop-z-preserved invariant-loop decreases-loop
 loop-again c =
     let s = c.before.before.before.before.before in
     let a = s.args in
-    let l = c.before.before.loop in
+    let l = c.loop-z in
     let h : l.z < 16 = omega (arith, s.requires.0.zones_most) in
-    (omega arith, simp length-set l.invariant.1, rw (l.invariant.2, c.look-zone.ensures, add-one) (fill_more (λ (i : ℕ). zone_look_of (zone_shown a.g (is_set a.here) (read_device a.g a.sectors.now a.written.now) i)) blank_look 16 l.z h))
+    (omega arith, simp length-set l.invariant.1, rw (l.invariant.2, c.look_zone-shown.ensures, add-one) (fill_more (λ (i : ℕ). zone_look_of (zone_shown a.g (is_set a.here) (read_device a.g a.sectors.now a.written.now) i)) blank_look 16 l.z h))
 
 returns : tie.Need-returns invariant-loop decreases-loop
 unfolding looks_from
-returns c = let l = c.before.loop in let e : l.z ≡ c.before.before.before.before.args.g.zones = omega arith in l.invariant.2 ∙ rw e refl
+returns c = let l = c.loop-z in let e : l.z ≡ c.args.g.zones = omega arith in l.invariant.2 ∙ rw e refl
 
-pub look-zones-spec : {M : Type 1} → statement M
-look-zones-spec =
+pub look_zones_spec : {M : Type 1} → statement M
+look_zones_spec =
     tie.close
-    (tie.spec invariant-loop decreases-loop (λ c. (omega arith, refl, refl)) look-zone-requires (λ c. omega (arith, c.before.before.before.before.before.requires.0.zones_most)) (λ c. omega (arith, c.before.before.before.before.before.requires.0.zones_most)) (λ c. omega (arith, c.before.before.before.before.before.requires.0.zones_most)) (λ c. omega arith) loop-again returns)
+    (tie.spec invariant-loop decreases-loop (λ c. (omega arith, refl, refl)) look-zone-requires (λ c. omega (arith, c.requires.0.zones_most)) (λ c. omega (arith, c.requires.0.zones_most)) (λ c. omega (arith, c.requires.0.zones_most)) (λ c. omega arith) loop-again returns)

@@ -12,34 +12,34 @@ use borrow.Author.Rules.{rules}
 use Rattle.volume.proofs.looking.shape_refusal.Statement.{statement}
 use Rattle.volume.proofs.looking.shape_refusal.Tie as tie
 
-valid : (c : tie.Else1) → is_valid c.before.before.before.before.args.g ≡ true
-valid c = sym c.before.valid.ensures ∙ not-false c.before.valid.result c.if1.false
+valid : (c : tie.Else-not-valid) → is_valid c.args.g ≡ true
+valid c = sym c.before.valid.ensures ∙ not-false c.before.valid.result c.if-not-valid.false-raw
 
-fits : (c : tie.Else2) → lengths_fit c.before.before.before.before.before.before.args.g c.before.before.before.before.before.before.args.sectors (length c.before.before.before.before.before.before.args.written.now) (length c.before.before.before.before.before.before.args.durable.now) ≡ true
-fits c = sym c.before.lengths-fit.ensures ∙ not-false c.before.lengths-fit.result c.if2.false
+fits : (c : tie.Else-not-lengths_fit) → lengths_fit c.args.g c.args.sectors (length c.args.written.now) (length c.args.durable.now) ≡ true
+fits c = sym c.lengths_fit.ensures ∙ not-false c.lengths_fit.result c.if-not-lengths_fit.false-raw
 
-returns : tie.Need-returns
-returns c = let a = c.before.before.before.before.args in shape_1 a.g a.named a.sectors a.written.now a.durable.now (sym c.before.valid.ensures ∙ not-true c.before.valid.result c.if1.true)
+returns : tie.Need-returns-then-not-valid
+returns c = let a = c.args in shape_1 a.g a.named a.sectors a.written.now a.durable.now (sym c.before.valid.ensures ∙ not-true c.before.valid.result c.if-not-valid.true-raw)
 
-lengths-fit-requires : tie.Need-lengths-fit-requires
+lengths-fit-requires : tie.Need-lengths_fit-requires
 lengths-fit-requires c κs = valid_if_test _ (valid c)
 
-returns-2 : tie.Need-returns-2
-returns-2 c = let a = c.before.before.before.before.before.before.args in shape_2 a.g a.named a.sectors a.written.now a.durable.now (valid c.before.before) (sym c.before.lengths-fit.ensures ∙ not-true c.before.lengths-fit.result c.if2.true)
+returns-2 : tie.Need-returns-then-not-lengths_fit
+returns-2 c = let a = c.args in shape_2 a.g a.named a.sectors a.written.now a.durable.now (valid c.before.before) (sym c.lengths_fit.ensures ∙ not-true c.lengths_fit.result c.if-not-lengths_fit.true-raw)
 
-pointers-bad-requires : tie.Need-pointers-bad-requires
+pointers-bad-requires : tie.Need-pointers_bad-requires
 pointers-bad-requires c κs =
-    let a = c.before.before.before.before.before.before.args in
+    let a = c.args in
     let (x, y, z) = lengths_are a.g a.sectors (length a.written.now) (length a.durable.now) (fits c) in
     (valid_if_test _ (valid c.before.before), (y, z))
 
-returns-3 : tie.Need-returns-3
-returns-3 c = let a = c.before.before.before.before.before.before.before.before.args in shape_3 a.g a.named a.sectors a.written.now a.durable.now (valid c.before.before.before.before) (fits c.before.before) (sym c.before.pointers-bad.ensures ∙ c.if3.true)
+returns-3 : tie.Need-returns-then-pointers_bad
+returns-3 c = let a = c.args in shape_3 a.g a.named a.sectors a.written.now a.durable.now (valid c.before.before.before.before) (fits c.before.before) (sym c.pointers_bad.ensures ∙ c.if-pointers_bad.true)
 
-returns-4 : tie.Need-returns-4
-returns-4 c = let a = c.before.before.before.before.before.before.before.before.args in shape_0 a.g a.named a.sectors a.written.now a.durable.now (valid c.before.before.before.before) (fits c.before.before) (sym c.before.pointers-bad.ensures ∙ c.if3.false)
+returns-4 : tie.Need-returns
+returns-4 c = let a = c.args in shape_0 a.g a.named a.sectors a.written.now a.durable.now (valid c.before.before.before.before) (fits c.before.before) (sym c.pointers_bad.ensures ∙ c.if-pointers_bad.false)
 
-pub shape-refusal-spec : {M : Type 1} → statement M
-shape-refusal-spec =
+pub shape_refusal_spec : {M : Type 1} → statement M
+shape_refusal_spec =
     tie.close
     (tie.spec (λ c κs. search rules) returns lengths-fit-requires returns-2 pointers-bad-requires returns-3 returns-4)

@@ -15,11 +15,11 @@ use borrow.Author.Rules.{rules}
 use Rattle.volume.proofs.looking.shown_state.Statement.{statement}
 use Rattle.volume.proofs.looking.shown_state.Tie as tie
 
-abbrev to_start : tie.After-records-of → tie.Start
-to_start c = c.before.before.before.before.before
+abbrev to_start : tie.After-records_of-zones → tie.Start
+to_start c = c.before.before.before.before.before.before.before
 
-shares-of-requires : tie.Need-shares-of-requires
-shares-of-requires c κs = let s = to_start c in (s.pre.0, (s.pre.1.1, s.pre.1.0.written_long))
+shares-of-requires : tie.Need-shares_of-shares-requires
+shares-of-requires c κs = let s = to_start c in (s.requires.0, (s.requires.1.1, s.requires.1.0.written_long))
 
 returns : tie.Need-returns
 returns c =
@@ -27,9 +27,9 @@ returns c =
     let a = (to_start r).args in
     let g = a.places.geometry in
     let share = shares_on a.places a.here a.written.now in
-    rw (c.shares_of.ensures, r.records-of.ensures)
-    (ap (λ (l : Look). let s : State = record { lost = l.lost; zones = records_of g l.zones; shares = tabulate share max_shares } in s) r.before.before.look-all.ensures
+    rw (c.shares_of-shares.ensures, r.records_of-zones.ensures)
+    (ap (λ (l : Look). let s : State = record { lost = l.lost; zones = records_of g l.zones; shares = tabulate share max_shares } in s) r.look_all-shown.ensures
     ∙ state_of_look g (showing g (is_set a.here) (find_below (λ (d : ℕ). not (is_set a.here d)) g.drives) (read_device g a.sectors.now a.written.now)) share)
 
-pub shown-state-spec : {M : Type 1} → statement M
-shown-state-spec = tie.close (tie.spec (λ c κs. search rules) (λ c κs. search rules) shares-of-requires returns)
+pub shown_state_spec : {M : Type 1} → statement M
+shown_state_spec = tie.close (tie.spec (λ c κs. search rules) (λ c κs. search rules) shares-of-requires returns)

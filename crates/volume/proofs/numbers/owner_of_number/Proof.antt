@@ -3,14 +3,14 @@ use borrow.Author.Tests.{eq-eqb, ne_eqb}
 use Rattle.volume.proofs.numbers.owner_of_number.Statement.{statement}
 use Rattle.volume.proofs.numbers.owner_of_number.Tie as tie
 
-returns : tie.Need-returns
-returns c = rw (eq-eqb _ _ c.if1.true) refl
+returns : tie.Need-returns-then-number-eq1
+returns c = rw (eq-eqb _ _ c.if-number-eq1.true) refl
 
-returns-2 : tie.Need-returns-2
-returns-2 c = rw (ne_eqb _ _ c.before.if1.false, eq-eqb _ _ c.if2.true) refl
+returns-2 : tie.Need-returns-then-number-eq2
+returns-2 c = rw (ne_eqb _ _ c.if-number-eq1.false, eq-eqb _ _ c.if-number-eq2.true) refl
 
-returns-3 : tie.Need-returns-3
-returns-3 c = rw (ne_eqb _ _ c.before.if1.false, ne_eqb _ _ c.if2.false) refl
+returns-3 : tie.Need-returns
+returns-3 c = rw (ne_eqb _ _ c.if-number-eq1.false, ne_eqb _ _ c.if-number-eq2.false) refl
 
-pub owner-of-number-spec : {M : Type 1} → statement M
-owner-of-number-spec = tie.close (tie.spec returns returns-2 returns-3)
+pub owner_of_number_spec : {M : Type 1} → statement M
+owner_of_number_spec = tie.close (tie.spec returns returns-2 returns-3)

@@ -4,11 +4,11 @@ use borrow.Author.Rules.{rules}
 use Rattle.volume.proofs.reading.answer_by.Statement.{statement}
 use Rattle.volume.proofs.reading.answer_by.Tie as tie
 
-returns : tie.Need-returns
-returns c = rw (eq-eqb _ _ c.if1.true) refl
+returns : tie.Need-returns-then-number-eq0
+returns c = rw (eq-eqb _ _ c.if-number-eq0.true) refl
 
-returns-2 : tie.Need-returns-2
-returns-2 c = rw (ne_eqb _ _ c.if1.false) refl
+returns-2 : tie.Need-returns
+returns-2 c = rw (ne_eqb _ _ c.if-number-eq0.false) refl
 
-pub answer-by-spec : {M : Type 1} → statement M
-answer-by-spec = tie.close (tie.spec returns returns-2)
+pub answer_by_spec : {M : Type 1} → statement M
+answer_by_spec = tie.close (tie.spec returns returns-2)

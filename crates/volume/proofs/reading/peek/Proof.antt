@@ -15,48 +15,48 @@ use Rattle.volume.proofs.reading.peek.Statement.{statement}
 use Rattle.volume.proofs.reading.peek.Tie as tie
 use Rattle.tables.specs.meaning.Geometry.{data_zone}
 
-returns : tie.Need-returns
+returns : tie.Need-returns-then-refusal-ne0
 returns c =
-    let a = c.before.before.before.before.before.before.args in
-    let (p, q) = peek_refused a.g a.named a.state a.address (tables_of a.sectors.now a.written.now a.durable.now) (λ k. c.before.if1.true (c.before.before.peek-refusal.ensures ∙ k)) in
+    let a = c.args in
+    let (p, q) = peek_refused a.g a.named a.state a.address (tables_of a.sectors.now a.written.now a.durable.now) (λ k. c.if-refusal-ne0.true (c.peek_refusal-refusal.ensures ∙ k)) in
     (p, past_none a.sectors.ref_ptr ∙ ap (λ (n : ℕ). past n a.sectors.ref_ptr) q)
 
-accepted : (c : tie.Else1) → peek_number c.before.before.before.before.before.args.g c.before.before.before.before.before.args.named c.before.before.before.before.before.args.state c.before.before.before.before.before.args.address (tables_of c.before.before.before.before.before.args.sectors.now c.before.before.before.before.before.args.written.now c.before.before.before.before.before.args.durable.now) ≡ 0
-accepted c = let e : c.before.peek-refusal.result ≡ 0 = omega arith in sym c.before.peek-refusal.ensures ∙ e
+accepted : (c : tie.Else-refusal-ne0) → peek_number c.args.g c.args.named c.args.state c.args.address (tables_of c.args.sectors.now c.args.written.now c.args.durable.now) ≡ 0
+accepted c = let e : c.peek_refusal-refusal.result ≡ 0 = omega arith in sym c.peek_refusal-refusal.ensures ∙ e
 
-fits : (c : tie.Else1) → PeekFits c.before.before.before.before.before.args.g c.before.before.before.before.before.args.named c.before.before.before.before.before.args.state c.before.before.before.before.before.args.address c.before.before.before.before.before.args.sectors.now c.before.before.before.before.before.args.written.now c.before.before.before.before.before.args.durable.now
-fits c = let a = c.before.before.before.before.before.args in peek_accepted a.g a.named a.state a.address a.sectors.now a.written.now a.durable.now (accepted c)
+fits : (c : tie.Else-refusal-ne0) → PeekFits c.args.g c.args.named c.args.state c.args.address c.args.sectors.now c.args.written.now c.args.durable.now
+fits c = let a = c.args in peek_accepted a.g a.named a.state a.address a.sectors.now a.written.now a.durable.now (accepted c)
 
-zone-of-requires : tie.Need-zone-of-requires
+zone-of-requires : tie.Need-zone_of-z-requires
 zone-of-requires c κs = (fits c).passed.valid
 
-offset-of-requires : tie.Need-offset-of-requires
+offset-of-requires : tie.Need-offset_of-offset-requires
 offset-of-requires c κs = (fits c.before).passed.valid
 
-drive-of-requires : tie.Need-drive-of-requires
-drive-of-requires c κs = let f = fits c.before.before in (f.passed.valid, (rw c.before.zone-of.ensures f.zone_in_lem, omega (arith, c.offset-of.ensures.1)))
+drive-of-requires : tie.Need-drive_of-d-requires
+drive-of-requires c κs = let f = fits c.before.before in (f.passed.valid, (rw c.zone_of-z.ensures f.zone_in_lem, omega (arith, c.offset_of-offset.ensures.1)))
 
-sector-of-requires : tie.Need-sector-of-requires
-sector-of-requires c κs = ((fits c.before.before.before).passed.valid, omega (arith, c.before.offset-of.ensures.1))
+sector-of-requires : tie.Need-sector_of-x-requires
+sector-of-requires c κs = ((fits c.before.before.before).passed.valid, omega (arith, c.offset_of-offset.ensures.1))
 
-add-byte-at : tie.Need-overflow-add-byte-at
-add-byte-at c = let f = fits c.before.before.before.before in omega (arith, c.before.before.before.zone-of.ensures, f.zone_in_lem, f.passed.valid.zones_most)
+add-byte-at : tie.Need-overflow_add-z
+add-byte-at c = let f = fits c.before.before.before.before in omega (arith, c.zone_of-z.ensures, f.zone_in_lem, f.passed.valid.zones_most)
 
-byte-at-requires : tie.Need-byte-at-requires
+byte-at-requires : tie.Need-byte_at-at-requires
 byte-at-requires c κs =
     let f = fits c.before.before.before.before in
-    let o = c.before.before.offset-of in
-    (f.passed.valid, (c.before.drive-of.ensures.1, omega (arith, c.before.before.before.zone-of.ensures, f.zone_in_lem), rw c.sector-of.ensures (sector_within c.before.before.before.before.before.before.before.before.before.args.g o.result f.passed.valid o.ensures.1)))
+    let o = c.offset_of-offset in
+    (f.passed.valid, (c.drive_of-d.ensures.1, omega (arith, c.zone_of-z.ensures, f.zone_in_lem), rw c.sector_of-x.ensures (sector_within c.args.g o.result f.passed.valid o.ensures.1)))
 
-add-end : tie.Need-overflow-add-end
-add-end c = omega (arith, c.byte-at.ensures.1, (bytes_small c.before.before.before.before.before.before.before.before.before.before.args.g (fits c.before.before.before.before.before).passed.valid).1)
+add-end : tie.Need-overflow_add-end
+add-end c = omega (arith, c.byte_at-at.ensures.1, (bytes_small c.args.g (fits c.before.before.before.before.before).passed.valid).1)
 
-part-result-end : tie.Need-slice-bounds-result-end
+part-result-end : tie.Need-slice_bounds-result-end-2
 part-result-end c =
-    let a = c.before.before.before.before.before.before.before.before.before.before.args in
-    omega (arith, c.byte-at.ensures.1, (lengths_are a.g (length a.sectors.now) (length a.written.now) (length a.durable.now) (fits c.before.before.before.before.before).passed.lengths).0)
+    let a = c.args in
+    omega (arith, c.byte_at-at.ensures.1, (lengths_are a.g (length a.sectors.now) (length a.written.now) (length a.durable.now) (fits c.before.before.before.before.before).passed.lengths).0)
 
-returns-2 : tie.Need-returns-2
+returns-2 : tie.Need-returns
 returns-2 c =
     let at-offset-of = c.before.before.before.before in
     let at-zone-of = at-offset-of.before in
@@ -65,11 +65,11 @@ returns-2 c =
     let a = at_start.args in
     let D = a.g.drives in
     let U = a.g.unit in
-    let at = c.before.byte-at.result in
+    let at = c.byte_at-at.result in
     let d : at + a.g.sector - at ≡ a.g.sector = omega arith in
     let e : at ≡ byte_at a.g (drive_of D U (zone_of a.g a.address) (offset_of a.g a.address)) (data_zone (zone_of a.g a.address)) (sector_of D U (offset_of a.g a.address)) =
-    c.before.byte-at.ensures.0 ∙ ap₂ (λ (k x : ℕ). byte_at a.g k (data_zone at-zone-of.zone-of.result) x) c.before.before.before.drive-of.ensures.0 c.before.before.sector-of.ensures
-    ∙ ap₂ (λ (z o : ℕ). byte_at a.g (drive_of D U z o) (data_zone z) (sector_of D U o)) at-zone-of.zone-of.ensures at-offset-of.offset-of.ensures.0 in
+    c.byte_at-at.ensures.0 ∙ ap₂ (λ (k x : ℕ). byte_at a.g k (data_zone at-zone-of.zone_of-z.result) x) c.drive_of-d.ensures.0 c.sector_of-x.ensures
+    ∙ ap₂ (λ (z o : ℕ). byte_at a.g (drive_of D U z o) (data_zone z) (sector_of D U o)) at-zone-of.zone_of-z.ensures at-offset-of.offset_of-offset.ensures.0 in
     let (p, q) = peek_done a.g a.named a.state a.address (tables_of a.sectors.now a.written.now a.durable.now) (accepted (s)) in
     (ap₂ (λ (n k : ℕ). take n (drop k a.sectors.now)) d e ∙ p, ap (λ (n : ℕ). past n a.sectors.ref_ptr) (e ∙ q))
 

@@ -13,22 +13,22 @@ use Rattle.volume.proofs.reading.read_run.Statement.{statement}
 use Rattle.volume.proofs.reading.read_run.Tie as tie
 
 -- no drive is absent
-returns : tie.Need-returns
+returns : tie.Need-returns-then-absent-eq0
 returns c =
     let s = c.before.before.before.before.before.before.before.before.before.before in
     let a = s.args in
     let g = a.zone.geometry in
     let r = s.requires.1 in
-    let All-here = sym c.before.before.before.before.before.count-absent.ensures ∙ c.before.before.before.before.if1.true in
+    let All-here = sym c.count_absent-absent.ensures ∙ c.if-absent-eq0.true in
     let held = run_held g s.requires.0 a.zone.here a.written.now a.zone.number a.pointer r.reaches a.offset a.count All-here r.below in
-    read_directly a.zone s.requires.0 a.sectors.now a.written.now a.pointer a.offset a.count a.out.now c.before.before.copy_run.new.1.1.1.1.1.0 r (none_needed g a.zone.here a.pointer (a.offset + a.count) All-here)
-    (c.before.before.copy_run.ensures ∙ held_values g a.zone.here a.sectors.now a.written.now a.zone.number r.readable a.zone.generation a.offset a.count s.requires.0 r.run_in held)
+    read_directly a.zone s.requires.0 a.sectors.now a.written.now a.pointer a.offset a.count a.out.now c.copy_run.new.out r (none_needed g a.zone.here a.pointer (a.offset + a.count) All-here)
+    (c.copy_run.ensures ∙ held_values g a.zone.here a.sectors.now a.written.now a.zone.number r.readable a.zone.generation a.offset a.count s.requires.0 r.run_in held)
 
 -- one is, and no log is needed
-none : (c : tie.Else2) → let a = c.before.before.before.before.before.before.before.before.args in needs_log a.zone.geometry a.zone.here a.pointer (a.offset + a.count) ≡ false
-none c = sym c.before.needs-log.ensures ∙ c.if2.false
+none : (c : tie.Else-logged) → let a = c.args in needs_log a.zone.geometry a.zone.here a.pointer (a.offset + a.count) ≡ false
+none c = sym c.needs_log-logged.ensures ∙ c.if-logged.false
 
-read-values-requires : tie.Need-read-values-requires
+read-values-requires : tie.Need-read_values-requires
 read-values-requires c κs =
     let s = c.before.before.before.before.before.before.before.before.before in
     let a = s.args in
@@ -49,15 +49,15 @@ read-values-requires c κs =
       ),
     )
 
-returns-3 : tie.Need-returns-3
+returns-3 : tie.Need-returns
 unfolding values_on
 returns-3 c =
     let s = c.before.before.before.before.before.before.before.before.before.before.before.before in
     let a = s.args in
-    read_directly a.zone s.requires.0 a.sectors.now a.written.now a.pointer a.offset a.count a.out.now c.before.before.read-values.new.1.1.1.1.1.1.0 s.requires.1 (none c.before.before.before.before) c.before.before.read-values.ensures
+    read_directly a.zone s.requires.0 a.sectors.now a.written.now a.pointer a.offset a.count a.out.now c.read_values.new.out s.requires.1 (none c.before.before.before.before) c.read_values.ensures
 
-pub read-run-spec : {M : Type 1} → statement M
-read-run-spec =
+pub read_run_spec : {M : Type 1} → statement M
+read_run_spec =
     tie.close
     (tie.spec (λ c κs. search rules) (λ c κs. search rules) (λ c. search rules) returns (λ c. search rules) (λ c κs. search rules) (λ c κs. search rules) (λ c. search rules) (λ c. search rules)
     read-values-requires (λ c. search rules) returns-3)

@@ -13,38 +13,38 @@ use Rattle.volume.specs.reading.Reading.{late_number}
 use Rattle.volume.proofs.reading.run_refusal.Statement.{statement}
 use Rattle.volume.proofs.reading.run_refusal.Tie as tie
 
-abbrev to_start : tie.Else1 → tie.Start
-to_start c = c.before.before.before.before
+abbrev to_start : tie.Else-stale → tie.Start
+to_start c = c.before.before.before.before.before
 
-returns : tie.Need-returns
+returns : tie.Need-returns-then-stale
 unfolding late_number
-returns c = rw (sym c.before.is-stale.ensures ∙ c.if1.true) refl
+returns c = rw (sym c.is_stale-stale.ensures ∙ c.if-stale.true) refl
 
-fresh : (c : tie.Else1) → let a = (to_start c).args in stale_on a.zone.geometry (is_set a.zone.here) a.written.now a.c a.zone.number ≡ false
-fresh c = sym c.before.is-stale.ensures ∙ c.if1.false
+fresh : (c : tie.Else-stale) → let a = (to_start c).args in stale_on a.zone.geometry (is_set a.zone.here) a.written.now a.c a.zone.number ≡ false
+fresh c = sym c.is_stale-stale.ensures ∙ c.if-stale.false
 
-run-bad : (c : tie.After-zone-sectors) → let a = (to_start c.before).args in eqb a.count 0 || ltb c.zone-sectors.result (a.offset + a.count) ≡ bad_run a.zone.geometry a.offset a.count
-run-bad c = let a = (to_start c.before).args in ap (λ (m : ℕ). eqb a.count 0 || ltb m (a.offset + a.count)) c.zone-sectors.ensures.0
+run-bad : (c : tie.After-zone_sectors-most) → let a = (to_start c.before.before).args in eqb a.count 0 || ltb c.zone_sectors-most.result (a.offset + a.count) ≡ bad_run a.zone.geometry a.offset a.count
+run-bad c = let a = (to_start c.before.before).args in ap (λ (m : ℕ). eqb a.count 0 || ltb m (a.offset + a.count)) c.zone_sectors-most.ensures.0
 
-returns-2 : tie.Need-returns-2
+returns-2 : tie.Need-returns-then-count-most
 unfolding late_number
-returns-2 c = rw (fresh c.before.before, sym (run-bad c.before) ∙ c.if2.true) refl
+returns-2 c = rw (fresh c.before.before.before, sym (run-bad c.before) ∙ c.if-count-most.true) refl
 
-returns-3 : tie.Need-returns-3
+returns-3 : tie.Need-returns-then-pointer-end
 unfolding late_number
 returns-3 c =
     let m = c.before.before.before in
-    let a = (to_start m.before).args in
-    rw (fresh m.before, sym (run-bad m) ∙ c.before.before.if2.false, lt-ltb (pointer_in a.c) (a.offset + a.count) (omega (arith, c.before.pointer-of.ensures, c.if3.true))) refl
+    let a = (to_start m.before.before).args in
+    rw (fresh m.before.before, sym (run-bad m) ∙ c.if-count-most.false, lt-ltb (pointer_in a.c) (a.offset + a.count) (omega (arith, c.pointer_of-pointer.ensures, c.if-pointer-end.true))) refl
 
-returns-4 : tie.Need-returns-4
+returns-4 : tie.Need-returns
 unfolding late_number
 returns-4 c =
     let m = c.before.before.before in
-    let a = (to_start m.before).args in
-    rw (fresh m.before, sym (run-bad m) ∙ c.before.before.if2.false, le-ltb (pointer_in a.c) (a.offset + a.count) (omega (arith, c.before.pointer-of.ensures, c.if3.false))) refl
+    let a = (to_start m.before.before).args in
+    rw (fresh m.before.before, sym (run-bad m) ∙ c.if-count-most.false, le-ltb (pointer_in a.c) (a.offset + a.count) (omega (arith, c.pointer_of-pointer.ensures, c.if-pointer-end.false))) refl
 
-pub run-refusal-spec : {M : Type 1} → statement M
-run-refusal-spec =
+pub run_refusal_spec : {M : Type 1} → statement M
+run_refusal_spec =
     tie.close
     (tie.spec (λ c κs. search rules) returns (λ c κs. search rules) (λ c. search rules) returns-2 (λ c κs. search rules) returns-3 returns-4)

@@ -8,21 +8,21 @@ use Rattle.volume.specs.checks.Records.{generations_in}
 use Rattle.volume.proofs.records.generations_of.Statement.{statement}
 use Rattle.volume.proofs.records.generations_of.Tie as tie
 
-abbrev invariant-loop : tie.invariant-loop
+abbrev invariant-loop : tie.invariant-loop-i
 invariant-loop zones out₀ i₀ out i = FilledTo (λ (y : ℕ). (get_or zones y blank_record).generation) 16 i out
 
-abbrev decreases-loop : tie.decreases-loop
+abbrev decreases-loop : tie.decreases-loop-i
 decreases-loop zones out₀ i₀ out i = 16 - i
 
-loop-again : tie.Need-loop-preserved invariant-loop decreases-loop
+loop-again : tie.Need-loop-i-preserved invariant-loop decreases-loop
 loop-again c =
-    let a = c.before.before.before.before.args in
-    let l = c.before.before.loop in
+    let a = c.args in
+    let l = c.loop-i in
     filled_turn (λ (y : ℕ). (get_or a.state.zones y blank_record).generation) 16 l.i l.out (omega arith) l.invariant
 
 returns : tie.Need-returns invariant-loop decreases-loop
 unfolding generations_in
-returns c = filled_end _ 16 _ _ (omega arith) c.before.loop.invariant
+returns c = filled_end _ 16 _ _ (omega arith) c.loop-i.invariant
 
-pub generations-of-spec : {M : Type 1} → statement M
-generations-of-spec = tie.close (tie.spec invariant-loop decreases-loop (λ c. (omega arith, refl, refl)) (λ c. omega arith) (λ c. omega arith) (λ c. omega arith) (λ c. omega arith) (λ c. omega arith) (λ c. omega arith) loop-again returns)
+pub generations_of_spec : {M : Type 1} → statement M
+generations_of_spec = tie.close (tie.spec invariant-loop decreases-loop (λ c. (omega arith, refl, refl)) (λ c. omega arith) (λ c. omega arith) (λ c. omega arith) (λ c. omega arith) (λ c. omega arith) (λ c. omega arith) loop-again returns)

@@ -7,14 +7,14 @@ use Rattle.tables.specs.laws.GeometryTest.{valid_if_test}
 use Rattle.volume.proofs.reporting.may_report.Statement.{statement}
 use Rattle.volume.proofs.reporting.may_report.Tie as tie
 
-valid : (c : tie.Else1) → is_valid c.before.before.args.g ≡ true
-valid c = sym c.before.valid.ensures ∙ not-false c.before.valid.result c.if1.false
+valid : (c : tie.Else-not-ok) → is_valid c.args.g ≡ true
+valid c = sym c.valid-ok.ensures ∙ not-false c.valid-ok.result c.if-not-ok.false-raw
 
-returns : tie.Need-returns
-returns c = rw (sym c.before.valid.ensures ∙ not-true c.before.valid.result c.if1.true) refl
+returns : tie.Need-returns-then-not-ok
+returns c = rw (sym c.valid-ok.ensures ∙ not-true c.valid-ok.result c.if-not-ok.true-raw) refl
 
-returns-2 : tie.Need-returns-2
-returns-2 c = rw (valid c.before, c.state-within.ensures) refl
+returns-2 : tie.Need-returns
+returns-2 c = rw (valid c.before, c.state_within.ensures) refl
 
-pub may-report-spec : {M : Type 1} → statement M
-may-report-spec = tie.close (tie.spec (λ c κs. search rules) returns (λ c κs. valid_if_test _ (valid c)) returns-2)
+pub may_report_spec : {M : Type 1} → statement M
+may_report_spec = tie.close (tie.spec (λ c κs. search rules) returns (λ c κs. valid_if_test _ (valid c)) returns-2)

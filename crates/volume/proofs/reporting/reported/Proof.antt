@@ -6,11 +6,11 @@ use Rattle.volume.specs.reading.Reporting.{reported_if}
 use Rattle.volume.proofs.reporting.reported.Statement.{statement}
 use Rattle.volume.proofs.reporting.reported.Tie as tie
 
-returns : tie.Need-returns
-returns c = let a = c.before.before.args in sym (reported_if a.g (view_state a.state) a.number true (sym c.before.may-report.ensures ∙ c.if1.true))
+returns : tie.Need-returns-then-ok
+returns c = let a = c.args in sym (reported_if a.g (view_state a.state) a.number true (sym c.may_report-ok.ensures ∙ c.if-ok.true))
 
-returns-2 : tie.Need-returns-2
-returns-2 c = let a = c.before.before.args in sym (reported_if a.g (view_state a.state) a.number false (sym c.before.may-report.ensures ∙ c.if1.false))
+returns-2 : tie.Need-returns
+returns-2 c = let a = c.args in sym (reported_if a.g (view_state a.state) a.number false (sym c.may_report-ok.ensures ∙ c.if-ok.false))
 
-pub reported-spec : {M : Type 1} → statement M
-reported-spec = tie.close (tie.spec (λ c κs. search rules) returns returns-2)
+pub reported_spec : {M : Type 1} → statement M
+reported_spec = tie.close (tie.spec (λ c κs. search rules) returns returns-2)

@@ -6,23 +6,23 @@ use Rattle.logs.specs.meaning.Entry.{worn_generation}
 use Rattle.volume.proofs.resetting.reset_record.Statement.{statement}
 use Rattle.volume.proofs.resetting.reset_record.Tie as tie
 
-add-generation : tie.Need-overflow-add-generation
+add-generation : tie.Need-overflow_add-generation
 unfolding worn_generation
-add-generation c = omega (arith, c.before.requires)
+add-generation c = omega (arith, c.requires)
 
-returns : tie.Need-returns
+returns : tie.Need-returns-then-generation
 unfolding worn_generation
 returns c =
-    let n = c.before.before.args.r.generation in
+    let n = c.args.r.generation in
     let e : suc n ≡ n + 1 = omega arith in
-    rw (e, eq-eqb (n + 1) worn_generation c.if1.true) refl
+    rw (e, eq-eqb (n + 1) worn_generation c.if-generation.true) refl
 
-returns-2 : tie.Need-returns-2
+returns-2 : tie.Need-returns
 unfolding worn_generation
 returns-2 c =
-    let n = c.before.before.args.r.generation in
+    let n = c.args.r.generation in
     let e : suc n ≡ n + 1 = omega arith in
-    rw (e, ne_eqb (n + 1) worn_generation c.if1.false) refl
+    rw (e, ne_eqb (n + 1) worn_generation c.if-generation.false) refl
 
-pub reset-record-spec : {M : Type 1} → statement M
-reset-record-spec = tie.close (tie.spec add-generation returns returns-2)
+pub reset_record_spec : {M : Type 1} → statement M
+reset_record_spec = tie.close (tie.spec add-generation returns returns-2)

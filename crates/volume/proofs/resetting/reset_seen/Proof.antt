@@ -50,48 +50,48 @@ next s = let z = s.args.zone in state_held max_zones (reset_state (find_below (�
 abbrev room : tie.Start → LogRoom
 room s = let a = s.args in room_by a.zone a.places a.state a.sectors.now a.written.now a.pointers.now
 
-general-room-requires : tie.Need-general-room-requires
+general-room-requires : tie.Need-general_room-room-requires
 general-room-requires c κs =
-    let s = c.before.before.before.before.before.before.before.before.before.before in
-    let n : length c.before.before.before.generations-of.result ≡ 16 = ap length c.before.before.before.generations-of.ensures ∙ generations_in_long s.args.state in
+    let s = c.before.before.before.before.before.before.before.before in
+    let n : length c.generations_of-current.result ≡ 16 = ap length c.generations_of-current.ensures ∙ generations_in_long s.args.state in
     (s.requires.0, (s.requires.1.0, omega (arith, n, s.requires.0.zones_most)))
 
-abbrev to_start : tie.After-general-room → tie.Start
-to_start c = c.before.before.before.before.before.before.before.before.before.before.before
+abbrev to_start : tie.After-general_room-room → tie.Start
+to_start c = c.before.before.before.before.before.before.before.before.before
 
-room-is : (c : tie.After-general-room) → c.general-room.result ≡ room (to_start c)
+room-is : (c : tie.After-general_room-room) → c.general_room-room.result ≡ room (to_start c)
 room-is c =
     let a = (to_start c).args in
-    c.general-room.ensures ∙ ap (λ (gs : List ℕ). room_of (general_room_at (asked_by a.zone a.places) gs a.sectors.now a.written.now a.pointers.now) a.zone.geometry.drives) c.before.before.before.before.generations-of.ensures
+    c.general_room-room.ensures ∙ ap (λ (gs : List ℕ). room_of (general_room_at (asked_by a.zone a.places) gs a.sectors.now a.written.now a.pointers.now) a.zone.geometry.drives) c.generations_of-current.ensures
 
-full_is : (c : tie.After-general-room) → c.general-room.result.full ≡ zone_full (to_start c).args.zone (to_start c).args.state (given (to_start c))
+full_is : (c : tie.After-general_room-room) → c.general_room-room.result.full ≡ zone_full (to_start c).args.zone (to_start c).args.state (given (to_start c))
 full_is c =
     let s = to_start c in
     let a = s.args in
-    ap (λ (x : LogRoom). x.full) (room-is c) ∙ room_full a.zone a.places a.state a.sectors.now a.written.now a.pointers.now a.durable.now s.pre.1.0 s.pre.0
+    ap (λ (x : LogRoom). x.full) (room-is c) ∙ room_full a.zone a.places a.state a.sectors.now a.written.now a.pointers.now a.durable.now s.requires.1.0 s.requires.0
 
-returns : tie.Need-returns
+returns : tie.Need-returns-then-full
 unfolding reset_zone_on
 returns c =
     let r = c.before.before in
     let s = to_start r in
     let a = s.args in
-    let n : number s ≡ 14 = ap (λ (b : Bool). pick b 14 0) (sym (full_is r) ∙ c.before.if1.true) in
+    let n : number s ≡ 14 = ap (λ (b : Bool). pick b 14 0) (sym (full_is r) ∙ c.if-full.true) in
     let (p, q) = storing_refused a.zone.geometry (number s) (stores s) (next s) a.state a.count (given s) (λ k. let z : ◌≡◌ {A = ℕ} 14 0 = sym n ∙ k in absurd (omega (arith, z))) in
     let refused : ℕ → Outcome = λ k. record { answer = Refused k; state = a.state } in
     (c.refused.ensures ∙ ap refused (sym n) ∙ sym p, sym q)
 
-emptyings-of-requires : tie.Need-emptyings-of-requires
+emptyings-of-requires : tie.Need-emptyings_of-all-requires
 emptyings-of-requires c κs =
     let s = to_start c.before in
     let a = s.args in
-    placed_valid a.zone.geometry a.places a.sectors.now a.written.now a.pointers.now s.pre.1.0 s.pre.0
+    placed_valid a.zone.geometry a.places a.sectors.now a.written.now a.pointers.now s.requires.1.0 s.requires.0
 
-reset-from-requires : tie.Need-reset-from-requires
+reset-from-requires : tie.Need-reset_from-rest-requires
 reset-from-requires c κs =
     let y = c.before.before.before.before.before in
-    let x = y.before.before.general-room.result in
-    let s = c.before.before.before.before.before.before.before.before.before.before.before.before.before.before.before.before.before.before in
+    let x = y.general_room-room.result in
+    let s = c.before.before.before.before.before.before.before.before.before.before.before.before.before.before.before.before in
     let a = s.args in
     let g = a.zone.geometry in
     let k = s.requires.1.0 in
@@ -100,13 +100,13 @@ reset-from-requires c κs =
     let ok = placed_valid g a.places a.sectors.now a.written.now a.pointers.now k s.requires.0 in
     let zones = placed_zones g a.places a.sectors.now a.written.now a.pointers.now k in
     subst (λ (e : Emptyings). (Valid e.from × Valid e.to) × (EmptyingReady false e a.pointers.now a.sectors.now a.written.now a.durable.now × (e.to ≡ e.to) × (a.zone.number < e.from.zones) × ((record_at a.state a.zone.number).generation < worn_generation)))
-    (sym y.emptyings-of.ensures)
+    (sym y.emptyings_of-all.ensures)
     ((ok, valid_with_logs a.places.geometry (moved_logs a.places.geometry false (is_set x.emptied) a.places.geometry.drives) ok), (room_ready asked x a.sectors.now a.written.now a.pointers.now k a.durable.now r.durable_long, refl, rw zones r.zone_in_lem, r.fresh))
 
-returns-2 : tie.Need-returns-2
+returns-2 : tie.Need-returns
 unfolding reset_zone_on
 returns-2 c =
-    let f = c.before.before.before.before.before.before.before.reset-from in
+    let f = c.reset_from-rest in
     let y = c.before.before.before.before.before.before.before.before.before.before.before.before.before in
     let e = y.before in
     let w = e.before in
@@ -114,19 +114,19 @@ returns-2 c =
     let a = s.args in
     let z = a.zone in
     let x = room s in
-    let b = c.before.before.before.before.before.before.before.before.before.before.before.budget-of.result in
-    let end : Tables = tables_of f.new.0 f.new.1.0 f.new.1.1.0 in
-    let all : y.emptyings-of.result ≡ emptyings_of (asked_by z a.places) x = y.emptyings-of.ensures ∙ ap (emptyings_of (asked_by z a.places)) (room-is w) in
-    let full : x.full ≡ false = sym (ap (λ (l : LogRoom). l.full) (room-is w)) ∙ e.if1.false in
-    let n : number s ≡ 0 = ap (λ (b : Bool). pick b 14 0) (sym (full_is w) ∙ e.if1.false) in
+    let b = c.budget_of-budget.result in
+    let end : Tables = tables_of f.new.sectors f.new.written f.new.durable in
+    let all : y.emptyings_of-all.result ≡ emptyings_of (asked_by z a.places) x = y.emptyings_of-all.ensures ∙ ap (emptyings_of (asked_by z a.places)) (room-is w) in
+    let full : x.full ≡ false = sym (ap (λ (l : LogRoom). l.full) (room-is w)) ∙ e.if-full.false in
+    let n : number s ≡ 0 = ap (λ (b : Bool). pick b 14 0) (sym (full_is w) ∙ e.if-full.false) in
     let made : Emptyings → ℕ → Type 0 = λ l m. Made l.to b f.result (each_below (λ (d : ℕ). emptied_on l false (new_general_on l (generations_in a.state) a.sectors.now a.pointers.now d) d) l.from.drives ++ reset_with l.to (is_set z.here) z.number m (take l.to.zones (raised_list a.state z.number))) (given s) end in
-    let m = reset_made_all z a.places a.state a.sectors.now a.written.now a.pointers.now a.durable.now s.pre.1.0 s.pre.0 z.number s.pre.1.1.zone_in_lem full b f.result end
-    (subst (made (emptyings_of (asked_by z a.places) x)) s.pre.1.1.generation_is (subst (λ (l : Emptyings). made l z.generation) all f.ensures)) in
-    let (p, q) = storing_ends z.geometry (number s) (stores s) (next s) a.state a.count (given s) f.result end n (subst (λ (l : ℕ). Made z.geometry l f.result (stores s) (given s) end) c.before.before.before.before.before.before.before.before.before.before.before.budget-of.ensures m) in
+    let m = reset_made_all z a.places a.state a.sectors.now a.written.now a.pointers.now a.durable.now s.requires.1.0 s.requires.0 z.number s.requires.1.1.zone_in_lem full b f.result end
+    (subst (made (emptyings_of (asked_by z a.places) x)) s.requires.1.1.generation_is (subst (λ (l : Emptyings). made l z.generation) all f.ensures)) in
+    let (p, q) = storing_ends z.geometry (number s) (stores s) (next s) a.state a.count (given s) f.result end n (subst (λ (l : ℕ). Made z.geometry l f.result (stores s) (given s) end) c.budget_of-budget.ensures m) in
     (c.outcome.ensures ∙ p, q)
 
-pub reset-seen-spec : {M : Type 1} → statement M
-reset-seen-spec =
+pub reset_seen_spec : {M : Type 1} → statement M
+reset_seen_spec =
     tie.close
     (tie.spec (λ c. search rules) (λ c κs. search rules) (λ c. search rules) general-room-requires (λ c κs. search rules) (λ c. search rules) (λ c. search rules) returns emptyings-of-requires (λ c κs. search rules) reset-from-requires
-    (λ c κs. let s = c.before.before.before.before.before.before.before.before.before.before.before.before.before.before.before.before.before.before.before.before.before.before.before.before.before in (s.requires.0, (s.requires.1.1.zone_in_lem, s.requires.1.1.fresh))) (λ c. search rules) (λ c. search rules) (λ c. search rules) returns-2)
+    (λ c κs. let s = c.before.before.before.before.before.before.before.before.before.before.before.before.before.before.before.before.before.before.before.before.before.before.before in (s.requires.0, (s.requires.1.1.zone_in_lem, s.requires.1.1.fresh))) (λ c. search rules) (λ c. search rules) (λ c. search rules) returns-2)

@@ -8,10 +8,10 @@ use borrow.Author.Rules.{rules}
 use Rattle.volume.proofs.roles.log_generation.Statement.{statement}
 use Rattle.volume.proofs.roles.log_generation.Tie as tie
 
-zone-is : (c : tie.After-choose) → c.choose.result ≡ zone_of_kind c.before.before.before.before.args.parity (roles c.before.before.before.before.args.g (read_device c.before.before.before.before.args.g c.before.before.before.before.args.sectors.now c.before.before.before.before.args.written.now) c.before.before.before.before.args.drive)
-zone-is c = c.choose.ensures ∙ rw c.before.find-logs.ensures refl
+zone-is : (c : tie.After-choose-zone) → c.choose-zone.result ≡ zone_of_kind c.args.parity (roles c.args.g (read_device c.args.g c.args.sectors.now c.args.written.now) c.args.drive)
+zone-is c = c.choose-zone.ensures ∙ rw c.find_logs-zones.ensures refl
 
-claim-of-requires : tie.Need-claim-of-requires
+claim-of-requires : tie.Need-claim_of-requires
 claim-of-requires c κs =
     let s = c.before.before.before.before in
     let a = s.args in
@@ -21,9 +21,9 @@ returns : tie.Need-returns
 returns c =
     let s = c.before.before.before.before.before in
     let a = s.args in
-    ap suc (c.claim-of.ensures ∙ ap (λ (z : ℕ). zone_claim a.g a.drive a.parity (zones_read a.g a.sectors.now a.written.now a.drive z)) (zone-is c.before))
+    ap suc (c.claim_of.ensures ∙ ap (λ (z : ℕ). zone_claim a.g a.drive a.parity (zones_read a.g a.sectors.now a.written.now a.drive z)) (zone-is c.before))
     ∙ sym (log_claim a.g a.drive (zones_read a.g a.sectors.now a.written.now a.drive) a.parity s.requires.1.2)
 
-pub log-generation-spec : {M : Type 1} → statement M
-log-generation-spec =
+pub log_generation_spec : {M : Type 1} → statement M
+log_generation_spec =
     tie.close (tie.spec (λ c κs. search rules) (λ c κs. search rules) claim-of-requires returns)

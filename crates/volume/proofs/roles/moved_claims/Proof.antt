@@ -4,8 +4,8 @@ use Rattle.volume.proofs.roles.moved_claims.Statement.{statement}
 use Rattle.volume.proofs.roles.moved_claims.Tie as tie
 
 returns : tie.Need-returns
-returns c = rw (c.before.before.before.claim-of.ensures, c.before.before.claim-of2.ensures, c.before.claim-of3.ensures, c.claim-of4.ensures) refl
+returns c = rw (c.claim_of-parity_in_first.ensures, c.claim_of-general_in_second.ensures, c.claim_of-general_in_third.ensures, c.claim_of-parity_in_third.ensures) refl
 
-pub moved-claims-spec : {M : Type 1} → statement M
-moved-claims-spec =
+pub moved_claims_spec : {M : Type 1} → statement M
+moved_claims_spec =
     tie.close (tie.spec (λ c κs. search rules) (λ c κs. search rules) (λ c κs. search rules) (λ c κs. search rules) returns)

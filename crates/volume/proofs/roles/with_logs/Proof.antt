@@ -2,5 +2,5 @@ use mathlib.Core.Path.{refl}
 use Rattle.volume.proofs.roles.with_logs.Statement.{statement}
 use Rattle.volume.proofs.roles.with_logs.Tie as tie
 
-pub with-logs-spec : {M : Type 1} → statement M
-with-logs-spec = tie.close (tie.spec (λ c. refl))
+pub with_logs_spec : {M : Type 1} → statement M
+with_logs_spec = tie.close (tie.spec (λ c. refl))

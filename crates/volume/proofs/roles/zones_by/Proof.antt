@@ -5,8 +5,8 @@ use Rattle.volume.proofs.roles.zones_by.Tie as tie
 
 returns : tie.Need-returns
 returns c =
-    rw (c.choose2.ensures, c.before.other-than2.ensures, c.before.before.choose.ensures, c.before.before.before.other-than.ensures) refl
+    rw (c.choose-q.ensures, c.other_than-beside.ensures, c.choose-s.ensures, c.other_than-apart.ensures) refl
 
-pub zones-by-spec : {M : Type 1} → statement M
-zones-by-spec =
+pub zones_by_spec : {M : Type 1} → statement M
+zones_by_spec =
     tie.close (tie.spec (λ c κs. search rules) (λ c κs. search rules) (λ c κs. search rules) (λ c κs. search rules) returns)

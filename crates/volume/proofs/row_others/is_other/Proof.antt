@@ -11,5 +11,5 @@ unit-small c =
     let h : c.args.k * c.args.g.unit ≤ 8 * 16 = mul-le-mul {n₂ = 8} {m₂ = 16} (omega (arith, c.requires.1.1, c.requires.0.drives_most)) c.requires.0.unit_most in
     omega arith
 
-pub is-other-spec : {M : Type 1} → statement M
-is-other-spec = tie.close (tie.spec (λ c. omega (arith, unit-small c)) (λ c. omega (arith, unit-small c, c.requires.1.0.start_small)) (λ c. search rules))
+pub is_other_spec : {M : Type 1} → statement M
+is_other_spec = tie.close (tie.spec (λ c. omega (arith, unit-small c)) (λ c. omega (arith, unit-small c, c.requires.1.0.start_small)) (λ c. search rules))

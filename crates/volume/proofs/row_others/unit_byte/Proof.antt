@@ -8,8 +8,8 @@ use Rattle.volume.proofs.row_others.unit_byte.Tie as tie
 
 returns : tie.Need-returns
 returns c =
-    let a = c.before.before.args in
-    (c.byte-at.ensures.0 ∙ ap (λ (d : ℕ). byte_at a.g d (data_zone a.row.zone) a.row.sector) c.before.unit-drive.ensures.0, c.byte-at.ensures.1)
+    let a = c.args in
+    (c.byte_at.ensures.0 ∙ ap (λ (d : ℕ). byte_at a.g d (data_zone a.row.zone) a.row.sector) c.unit_drive-d.ensures.0, c.byte_at.ensures.1)
 
-pub unit-byte-spec : {M : Type 1} → statement M
-unit-byte-spec = tie.close (tie.spec (λ c κs. search rules) (λ c. search rules) (λ c κs. search rules) returns)
+pub unit_byte_spec : {M : Type 1} → statement M
+unit_byte_spec = tie.close (tie.spec (λ c κs. search rules) (λ c. search rules) (λ c κs. search rules) returns)

@@ -7,15 +7,15 @@ use Rattle.volume.proofs.row_others.xor_pair.Tie as tie
 
 returns : tie.Need-returns
 returns c =
-    let a = c.before.before.before.before.before.before.before.before.before.before.args in
-    let f = c.before.before.before.before.before.before.before.unit-byte in
-    let h = c.before.before.before.before.before.before.unit-byte2 in
+    let a = c.args in
+    let f = c.unit_byte-from in
+    let h = c.unit_byte-next in
     let d : f.result + a.g.sector - f.result ≡ a.g.sector = omega arith in
     let e : h.result + a.g.sector - h.result ≡ a.g.sector = omega arith in
-    c.before.before.xor-two.ensures ∙ rw (d, e, f.ensures.0, h.ensures.0) refl
+    c.xor_two.ensures ∙ rw (d, e, f.ensures.0, h.ensures.0) refl
 
-pub xor-pair-spec : {M : Type 1} → statement M
-xor-pair-spec =
+pub xor_pair_spec : {M : Type 1} → statement M
+xor_pair_spec =
     tie.close
     (tie.spec (λ c κs. search rules) (λ c. search rules) (λ c κs. search rules) (λ c. search rules) (λ c. search rules) (λ c. search rules)
     (λ c. search rules) (λ c. search rules) (λ c. search rules) (λ c. search rules) (λ c. search rules) (λ c κs. search rules) (λ c. search rules)

@@ -7,13 +7,13 @@ use Rattle.volume.proofs.row_others.xor_unit.Tie as tie
 
 returns : tie.Need-returns
 returns c =
-    let a = c.before.before.before.before.before.before.before.before.args in
-    let f = c.before.before.before.before.before.unit-byte in
+    let a = c.args in
+    let f = c.unit_byte-from in
     let d : f.result + a.g.sector - f.result ≡ a.g.sector = omega arith in
-    c.before.before.xor-into.ensures ∙ rw (d, f.ensures.0) refl
+    c.xor_into.ensures ∙ rw (d, f.ensures.0) refl
 
-pub xor-unit-spec : {M : Type 1} → statement M
-xor-unit-spec =
+pub xor_unit_spec : {M : Type 1} → statement M
+xor_unit_spec =
     tie.close
     (tie.spec (λ c κs. search rules) (λ c. search rules) (λ c. search rules) (λ c. search rules) (λ c. search rules) (λ c κs. search rules)
     (λ c. search rules) returns)

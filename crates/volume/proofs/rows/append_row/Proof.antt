@@ -35,66 +35,66 @@ goes s =
       target_cells a.known a.target a.sectors.now a.written.now a.pointers.now a.buffer.now a.s k,
     )
 
-append-due-requires : tie.Need-append-due-requires
+append-due-requires : tie.Need-append_due-made-requires
 append-due-requires c κs = let (ok, hd, hz, l) = goes c.before.before.before.before.before in (ok, (hd, hz, l))
 
-returns : tie.Need-returns
+returns : tie.Need-returns-then-not-made
 returns c =
     let d = c.before.before in
     let s = d.before.before.before.before.before.before in
     let a = s.args in
     let t = a.target in
-    let e : (t.present && ltb 1 a.budget) && has_room a.known.to t.drive t.zone a.written.now ≡ false = sym d.append-due.ensures ∙ not-true d.append-due.result c.before.if1.true in
-    append_idle a.known.to t.present a.budget c.left_After.result t.drive t.zone (row s) a.sectors.now a.written.now c.left_After.ensures e
+    let e : (t.present && ltb 1 a.budget) && has_room a.known.to t.drive t.zone a.written.now ≡ false = sym d.append_due-made.ensures ∙ not-true d.append_due-made.result c.if-not-made.true-raw in
+    append_idle a.known.to t.present a.budget c.left_after.result t.drive t.zone (row s) a.sectors.now a.written.now c.left_after.ensures e
 
 -- where the store is due
-abbrev to_start : tie.Else1 → tie.Start
+abbrev to_start : tie.Else-not-made → tie.Start
 to_start c = c.before.before.before.before.before.before.before
 
-due : (c : tie.Else1) → let a = (to_start c).args in (a.target.present && ltb 1 a.budget) && has_room a.known.to a.target.drive a.target.zone a.written.now ≡ true
-due c = sym c.before.append-due.ensures ∙ not-false c.before.append-due.result c.if1.false
+due : (c : tie.Else-not-made) → let a = (to_start c).args in (a.target.present && ltb 1 a.budget) && has_room a.known.to a.target.drive a.target.zone a.written.now ≡ true
+due c = sym c.append_due-made.ensures ∙ not-false c.append_due-made.result c.if-not-made.false-raw
 
-parts : (c : tie.Else1) → let a = (to_start c).args in (a.target.present ≡ true) × (get_or a.written.now (cell a.known.to a.target.drive a.target.zone) 0 < a.known.to.capacity)
+parts : (c : tie.Else-not-made) → let a = (to_start c).args in (a.target.present ≡ true) × (get_or a.written.now (cell a.known.to a.target.drive a.target.zone) 0 < a.known.to.capacity)
 parts c = let a = (to_start c).args in due_parts a.known.to a.target.present a.budget a.target.drive a.target.zone a.written.now (due c)
 
-next-byte-requires : tie.Need-next-byte-requires
+next-byte-requires : tie.Need-next_byte-to-requires
 next-byte-requires c κs =
     let (ok, hd, hz, l) = goes (to_start c.before) in
     (ok, (hd, hz, l, (parts c.before).1))
 
-build-row-requires : tie.Need-build-row-requires
+build-row-requires : tie.Need-build_row-requires
 build-row-requires c κs =
     let d = c.before.before.before in
     let s = to_start d in
     let a = s.args in
-    let k = s.pre.1.0 in (
-      s.pre.0,
+    let k = s.requires.1.0 in (
+      s.requires.0,
       (
         k.stripe_known (parts d).0,
-        s.pre.1.1,
-        subst (λ (x : ℕ). FreePlace a.known.geometry a.pointers.now x) (sym c.before.next-byte.ensures.0) (next_free a.known a.target a.sectors.now a.written.now a.pointers.now a.buffer.now a.s k (parts d).1),
+        s.requires.1.1,
+        subst (λ (x : ℕ). FreePlace a.known.geometry a.pointers.now x) (sym c.next_byte-to.ensures.0) (next_free a.known a.target a.sectors.now a.written.now a.pointers.now a.buffer.now a.s k (parts d).1),
       ),
     )
 
 advance-requires : tie.Need-advance-requires
 advance-requires c κs =
-    let d = c.before.before.before.before.before.before.before in
+    let d = c.before.before.before.before.before.before.before.before in
     let (ok, hd, hz, l) = goes (to_start d) in
     (ok, (hd, hz, l, (parts d).1))
 
-returns-2 : tie.Need-returns-2
+returns-2 : tie.Need-returns
 returns-2 c =
     let at-build-row = c.before.before.before.before.before.before.before in
     let at-next-byte = at-build-row.before.before in
-    let d = at-next-byte.before.before in
+    let d = at-next-byte.before.before.before in
     let s = to_start d in
     let a = s.args in
     let t = a.target in
-    append_laid a.known.to t.present a.budget c.left-after2.result t.drive t.zone (row s) a.sectors.now a.written.now at-build-row.build-row.new.0 c.before.before.before.advance.new.0 c.left-after2.ensures (due d)
-    (at-build-row.build-row.ensures ∙ ap (λ (x : ℕ). overlay a.sectors.now x (row s)) at-next-byte.next-byte.ensures.0) c.before.before.before.advance.ensures
+    append_laid a.known.to t.present a.budget c.left_after-2.result t.drive t.zone (row s) a.sectors.now a.written.now at-build-row.build_row.new.sectors c.before.before.before.advance.new.written c.left_after-2.ensures (due d)
+    (at-build-row.build_row.ensures ∙ ap (λ (x : ℕ). overlay a.sectors.now x (row s)) at-next-byte.next_byte-to.ensures.0) c.before.before.before.advance.ensures
 
-pub append-row-spec : {M : Type 1} → statement M
-append-row-spec =
+pub append_row_spec : {M : Type 1} → statement M
+append_row_spec =
     tie.close
     (tie.spec append-due-requires (λ c κs. search rules) (λ c. search rules) returns next-byte-requires build-row-requires advance-requires
     (λ c κs. search rules) (λ c. search rules) (λ c. search rules) returns-2)

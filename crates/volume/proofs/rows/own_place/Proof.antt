@@ -8,16 +8,16 @@ use borrow.Author.Rules.{rules}
 use Rattle.volume.proofs.rows.own_place.Statement.{statement}
 use Rattle.volume.proofs.rows.own_place.Tie as tie
 
-byte-at-requires : tie.Need-byte-at-requires
+byte-at-requires : tie.Need-byte_at-requires
 byte-at-requires c κs =
     let s = c.before.before in
-    (s.requires.0, (c.before.drive-of.ensures.1, omega (arith, s.requires.1.0), omega (arith, sector_within s.args.g s.args.a s.requires.0 s.requires.1.1, c.sector-of.ensures)))
+    (s.requires.0, (c.drive_of-d.ensures.1, omega (arith, s.requires.1.0), omega (arith, sector_within s.args.g s.args.a s.requires.0 s.requires.1.1, c.sector_of-x.ensures)))
 
 returns : tie.Need-returns
 returns c =
     let x = c.before in
-    let a = x.before.before.args in
-    (c.byte-at.ensures.0 ∙ ap₂ (λ (d n : ℕ). byte_at a.g d (data_zone a.z) n) x.before.drive-of.ensures.0 x.sector-of.ensures, c.byte-at.ensures.1)
+    let a = x.args in
+    (c.byte_at.ensures.0 ∙ ap₂ (λ (d n : ℕ). byte_at a.g d (data_zone a.z) n) x.drive_of-d.ensures.0 x.sector_of-x.ensures, c.byte_at.ensures.1)
 
-pub own-place-spec : {M : Type 1} → statement M
-own-place-spec = tie.close (tie.spec (λ c κs. search rules) (λ c κs. search rules) (λ c. search rules) byte-at-requires returns)
+pub own_place_spec : {M : Type 1} → statement M
+own_place_spec = tie.close (tie.spec (λ c κs. search rules) (λ c κs. search rules) (λ c. search rules) byte-at-requires returns)

@@ -67,22 +67,22 @@ changed : (s : tie.Start) (ys : List ℕ) → length ys ≡ length (here s) → 
     → take s.args.to s.args.sectors.now ++ (ys ++ drop (s.args.to + s.args.g.sector - s.args.to) (drop s.args.to s.args.sectors.now)) ≡ with_three s.args.first s.args.sectors.now s.args.to (sector s s.args.i) (sector s (second s)) (sector s (third s))
 changed s ys l e = part_changed s.args.sectors.now ys s.args.to (s.args.to + s.args.g.sector - s.args.to) (l ∙ place-long s) ∙ ap (overlay s.args.sectors.now s.args.to) e
 
-returns : tie.Need-returns
+returns : tie.Need-returns-then-first
 returns c =
     let s = c.before.before.before.before.before.before.before.before.before.before in
-    let f = c.before.before.lay-three in
-    changed s f.new.0 f.auto.0 (f.ensures ∙ laid s c.before.before.before.before.before.before.before.if1.true)
+    let f = c.lay_three in
+    changed s f.new.acc f.auto.acc (f.ensures ∙ laid s c.if-first.true)
 
-returns-2 : tie.Need-returns-2
+returns-2 : tie.Need-returns
 returns-2 c =
     let s = c.before.before.before.before.before.before.before.before.before.before in
-    let f = c.before.before.xor-three in
-    changed s f.new.0 f.auto.0 (f.ensures ∙ added s c.before.before.before.before.before.before.before.if1.false)
+    let f = c.xor_three in
+    changed s f.new.acc f.auto.acc (f.ensures ∙ added s c.if-first.false)
 
-pub put-three-spec : {M : Type 1} → statement M
-put-three-spec =
+pub put_three_spec : {M : Type 1} → statement M
+put_three_spec =
     tie.close
-    (tie.spec (λ c. search rules) (λ c. omega (arith, number_small c.before.before, c.before.before.requires.0.unit_most)) (λ c. search rules) (λ c. search rules) (λ c. omega (arith, number_small c.before.before, c.before.before.requires.0.unit_most)) (λ c. search rules) (λ c. search rules) (λ c. search rules)
+    (tie.spec (λ c. search rules) (λ c. omega (arith, number_small c.before.before, c.requires.0.unit_most)) (λ c. search rules) (λ c. search rules) (λ c. omega (arith, number_small c.before.before, c.requires.0.unit_most)) (λ c. search rules) (λ c. search rules) (λ c. search rules)
     (λ c. search rules) (λ c. search rules) (λ c. search rules) (λ c. search rules) (λ c. search rules) (λ c. search rules) (λ c. search rules)
     (λ c. search rules) (λ c. search rules) (λ c. search rules) (λ c. search rules) (λ c. search rules) (λ c. search rules) (λ c. search rules)
     (λ c κs. search rules) (λ c. search rules) returns (λ c. search rules) (λ c. search rules) (λ c. search rules) (λ c. search rules)

@@ -13,38 +13,38 @@ use borrow.Author.Rules.{rules}
 use Rattle.volume.proofs.shares.fresh_shares.Statement.{statement}
 use Rattle.volume.proofs.shares.fresh_shares.Tie as tie
 
-abbrev invariant-loop : tie.invariant-loop
+abbrev invariant-loop : tie.invariant-loop-i
 invariant-loop here c half shares₀ i₀ shares i = FilledTo (λ (j : ℕ). pick (is_set here (j / hosts)) half 0) 16 i shares
 
-abbrev decreases-loop : tie.decreases-loop
+abbrev decreases-loop : tie.decreases-loop-i
 decreases-loop here c half shares₀ i₀ shares i = 16 - i
 
-half-past-requires : tie.Need-half-past-requires invariant-loop decreases-loop
+half-past-requires : tie.Need-half_past-half-requires invariant-loop decreases-loop
 half-past-requires c κs = (c.requires, le_refl c.args.g.capacity)
 
-loop-holds : tie.Need-loop-init invariant-loop decreases-loop
+loop-holds : tie.Need-loop-i-init invariant-loop decreases-loop
 loop-holds c = (omega arith, refl, refl)
 
-array-read-present : tie.Need-array-read-present invariant-loop decreases-loop
+array-read-present : tie.Need-bounds-here-drive invariant-loop decreases-loop
 array-read-present c = omega arith
 
-loop-again : tie.Need-loop-preserved invariant-loop decreases-loop
+loop-again : tie.Need-loop-i-preserved invariant-loop decreases-loop
 loop-again c =
     let s = c.before.before.before.before in
-    let l = c.before.before.loop in
-    let f : ℕ → ℕ = λ j. pick (is_set s.args.t2 (j / hosts)) c.before.before.before.half-past.result 0 in
-    subst (λ (n : ℕ). FilledTo f 16 (l.i + 1) (set l.shares l.i n)) (sym c.number-if.ensures) (filled_turn f 16 l.i l.shares (omega arith) l.invariant)
+    let l = c.loop-i in
+    let f : ℕ → ℕ = λ j. pick (is_set s.args.here (j / hosts)) c.half_past-half.result 0 in
+    subst (λ (n : ℕ). FilledTo f 16 (l.i + 1) (set l.shares l.i n)) (sym c.number_if.ensures) (filled_turn f 16 l.i l.shares (omega arith) l.invariant)
 
 returns : tie.Need-returns invariant-loop decreases-loop
 unfolding shares_by
 returns c =
     let s = c.before.before.before in
-    let l = c.before.loop in
-    let h = c.before.before.half-past in
-    let f : ℕ → ℕ → ℕ = λ half j. pick (is_set s.args.t2 (j / hosts)) half 0 in
+    let l = c.loop-i in
+    let h = c.half_past-half in
+    let f : ℕ → ℕ → ℕ = λ half j. pick (is_set s.args.here (j / hosts)) half 0 in
     filled_end (f h.result) 16 l.i l.shares (omega arith) l.invariant ∙ ap (λ (n : ℕ). tabulate (f n) 16) h.ensures
 
-pub fresh-shares-spec : {M : Type 1} → statement M
-fresh-shares-spec =
+pub fresh_shares_spec : {M : Type 1} → statement M
+fresh_shares_spec =
     tie.close
     (tie.spec invariant-loop decreases-loop half-past-requires loop-holds array-read-present (λ c κs. search rules) (λ c. omega arith) (λ c. omega arith) (λ c. omega arith) (λ c. omega arith) loop-again returns)

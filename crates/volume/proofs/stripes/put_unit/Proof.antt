@@ -3,11 +3,11 @@ use borrow.Author.Rules.{rules}
 use Rattle.volume.proofs.stripes.put_unit.Statement.{statement}
 use Rattle.volume.proofs.stripes.put_unit.Tie as tie
 
-returns : tie.Need-returns
-returns c = c.before.before.lay-unit.ensures ∙ rw c.before.before.before.before.if1.true refl
+returns : tie.Need-returns-then-first
+returns c = c.lay_unit.ensures ∙ rw c.if-first.true refl
 
-returns-2 : tie.Need-returns-2
-returns-2 c = c.before.before.add-unit.ensures ∙ rw c.before.before.before.before.if1.false refl
+returns-2 : tie.Need-returns
+returns-2 c = c.add_unit.ensures ∙ rw c.if-first.false refl
 
-pub put-unit-spec : {M : Type 1} → statement M
-put-unit-spec = tie.close (tie.spec (λ c κs. search rules) (λ c. search rules) returns (λ c κs. search rules) (λ c. search rules) returns-2)
+pub put_unit_spec : {M : Type 1} → statement M
+put_unit_spec = tie.close (tie.spec (λ c κs. search rules) (λ c. search rules) returns (λ c κs. search rules) (λ c. search rules) returns-2)

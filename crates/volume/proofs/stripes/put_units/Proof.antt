@@ -30,14 +30,14 @@ bytes s = s.args.s.geometry.unit * s.args.s.geometry.sector
 room : (s : tie.Start) (j : ℕ) → j < s.args.s.geometry.drives → let w = s.args.s in get_or s.args.written.now (cell w.geometry (unit_drive w.geometry.drives w.parity j) w.zone) 0 < w.geometry.capacity
 room s j h = omega (arith, s.requires.1.0.fit.room j h, s.requires.0.unit_least)
 
-place-of-requires : tie.Need-place-of-requires
+place-of-requires : tie.Need-place_of-row-requires
 place-of-requires c κs =
     let s = c.before.before.before.before.before in
     let f = s.requires.1.0 in
     let h : s.args.s.geometry.drives - 1 < s.args.s.geometry.drives = omega arith in
     (s.requires.0, (f.fit.zone_in_lem, f.parity_in, h, f.fit.written_long, room s (s.args.s.geometry.drives - 1) h))
 
-place-of-requires-2 : tie.Need-place-of-requires-2
+place-of-requires-2 : tie.Need-place_of-to-requires
 place-of-requires-2 c κs =
     let s = c.before.before.before.before.before.before in
     let f = s.requires.1.0 in
@@ -80,42 +80,42 @@ apart s i k to at n hi hk ne e f l =
     let w = s.args.s in
     rw (e, f, l) (place_apart w.geometry w.zone w.parity w.from s.args.sectors.now s.args.written.now s.args.buffer.now s.requires.1.0 i k hi hk ne)
 
-put-unit-requires : tie.Need-put-unit-requires
+put-unit-requires : tie.Need-put_unit-requires
 put-unit-requires c κs =
     let s = c.before.before.before.before.before.before.before.before.before.before.before in
     let j = s.args.j in
     let last = s.args.s.geometry.drives - 1 in
-    let to = c.before.before.before.before.place-of2 in
-    let row = c.before.before.before.before.before.place_of in
+    let to = c.place_of-to in
+    let row = c.before.before.before.before.before.place_of-row in
     let l = part-size s j (s.args.s.from + j * bytes s) s.requires.1.1 refl in
     let hj : j < s.args.s.geometry.drives = omega (arith, s.requires.1.1) in
     let hl : last < s.args.s.geometry.drives = omega (arith, s.requires.1.1) in
     (fits s j to.result _ hj to.ensures l, fits s last row.result _ hl row.ensures l, apart s j last to.result row.result _ hj hl (λ e. omega (arith, s.requires.1.1, e)) to.ensures row.ensures l)
 
-returns : tie.Need-returns
+returns : tie.Need-returns-then-last-j
 returns c =
     let s = c.before.before.before.before.before.before.before.before.before.before.before.before.before.before in
     let a = s.args in
     let w = a.s in
-    let to = c.before.before.before.before.before.before.before.place-of2 in
-    let row = c.before.before.before.before.before.before.before.before.place_of in (
+    let to = c.place_of-to in
+    let row = c.before.before.before.before.before.before.before.before.place_of-row in (
       omega arith,
       s.requires.1.1,
       λ xs lx e.
-          c.before.before.put-unit.ensures
+          c.put_unit.ensures
           ∙ rw (to.ensures, row.ensures, part-is s a.j (w.from + a.j * bytes s) refl)
           (one_next w.geometry w.zone w.parity w.from xs a.written.now a.buffer.now (fitting_same w a.sectors.now xs a.written.now a.buffer.now lx s.requires.1.0) a.j a.sectors.now s.requires.1.1 e),
     )
 
 -- where there are three
-place-of-requires-3 : tie.Need-place-of-requires-3
+place-of-requires-3 : tie.Need-place_of-second-requires
 place-of-requires-3 c κs =
     let s = c.before.before.before.before.before.before.before.before.before in
     let f = s.requires.1.0 in
     let h : s.args.j + 1 < s.args.s.geometry.drives = s.requires.1.1 in
     (s.requires.0, (f.fit.zone_in_lem, f.parity_in, h, f.fit.written_long, room s (s.args.j + 1) h))
 
-place-of-requires-4 : tie.Need-place-of-requires-4
+place-of-requires-4 : tie.Need-place_of-third-requires
 place-of-requires-4 c κs =
     let s = c.before.before.before.before.before.before.before.before.before.before in
     let f = s.requires.1.0 in
@@ -132,15 +132,15 @@ third s = omega arith
 inside-third : (s : tie.Start) → s.args.j + 3 < s.args.s.geometry.drives → s.args.s.from + s.args.j * bytes s + bytes s + bytes s + bytes s ≤ length s.args.buffer.now
 inside-third s h = rw (third s) (inside s (s.args.j + 2) (omega arith))
 
-put-three-units-requires : tie.Need-put-three-units-requires
+put-three-units-requires : tie.Need-put_three_units-requires
 put-three-units-requires c κs =
     let s = c.before.before.before.before.before.before.before.before.before.before.before.before.before.before.before in
     let j = s.args.j in
     let D = s.args.s.geometry.drives in
-    let a = c.before.before.before.before.before.before.before.before.place-of2 in
-    let b = c.before.before.before.before.before.place-of3 in
-    let d = c.before.before.before.before.place-of4 in
-    let row = c.before.before.before.before.before.before.before.before.before.place_of in
+    let a = c.place_of-to in
+    let b = c.place_of-second in
+    let d = c.place_of-third in
+    let row = c.before.before.before.before.before.before.before.before.before.place_of-row in
     let h : j + 3 < D = omega arith in
     let h0 : j < D = omega arith in
     let h1 : j + 1 < D = omega arith in
@@ -171,29 +171,29 @@ laid-alike : (ys : List ℕ) (first : Bool) (p q r row p' q' r' row' : ℕ) (x y
     ≡ overlay (overlay (overlay (overlay ys p' x') q' y') r' z') row' (xor_bytes (xor_bytes (pick first x' (xor_bytes (take (length x') (drop row' ys)) x')) y') z')
 laid-alike ys first p q r row p' q' r' row' x y z x' y' z' ep eq er es ex ey ez = rw (ep, eq, er, es, ex, ey, ez) refl
 
-returns-2 : tie.Need-returns-2
+returns-2 : tie.Need-returns
 returns-2 c =
     let s = c.before.before.before.before.before.before.before.before.before.before.before.before.before.before.before.before.before.before in
     let a = s.args in
     let w = a.s in
     let n = bytes s in
     let at = w.from + a.j * n in
-    let x = c.before.before.before.before.before.before.before.before.before.before.before.place-of2 in
-    let y = c.before.before.before.before.before.before.before.before.place-of3 in
-    let z = c.before.before.before.before.before.before.before.place-of4 in
-    let row = c.before.before.before.before.before.before.before.before.before.before.before.before.place_of in
-    let h : a.j + 3 < w.geometry.drives = omega (arith, c.before.before.before.before.before.before.before.before.before.if1.false) in (
+    let x = c.place_of-to in
+    let y = c.place_of-second in
+    let z = c.place_of-third in
+    let row = c.before.before.before.before.before.before.before.before.before.before.before.before.place_of-row in
+    let h : a.j + 3 < w.geometry.drives = omega (arith, c.if-last-j.false) in (
       omega arith,
       h,
       λ xs lx e.
-          c.before.before.put-three-units.ensures
+          c.put_three_units.ensures
           ∙ laid-alike a.sectors.now (eqb a.j 0) x.result y.result z.result row.result (place s a.j) (place s (a.j + 1)) (place s (a.j + 2)) (place s (w.geometry.drives - 1)) (part s at) (part s (at + n)) (part s (at + n + n)) (unit s a.j) (unit s (a.j + 1)) (unit s (a.j + 2))
           x.ensures y.ensures z.ensures row.ensures (part-is s a.j at refl) (part-is s (a.j + 1) (at + n) (second s)) (part-is s (a.j + 2) (at + n + n) (third s))
           ∙ three_next w.geometry w.zone w.parity w.from xs a.written.now a.buffer.now (fitting_same w a.sectors.now xs a.written.now a.buffer.now lx s.requires.1.0) a.j a.sectors.now h e,
     )
 
-pub put-units-spec : {M : Type 1} → statement M
-put-units-spec =
+pub put_units_spec : {M : Type 1} → statement M
+put_units_spec =
     tie.close
     (tie.spec
     (λ c. omega (arith, small c.before.before.before.before))

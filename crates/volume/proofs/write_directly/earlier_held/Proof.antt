@@ -13,15 +13,15 @@ use borrow.Author.Rules.{rules}
 use Rattle.volume.proofs.write_directly.earlier_held.Statement.{statement}
 use Rattle.volume.proofs.write_directly.earlier_held.Tie as tie
 
-returns : tie.Need-returns
+returns : tie.Need-returns-then-absent-eq0
 returns c =
     let s = c.before.before.before.before in
     let z = s.args.zone in
     let g = z.geometry in
     let n = s.args.n in
-    let none : count_below (λ (d : ℕ). not (is_set z.here d)) g.drives ≡ 0 = sym c.before.count-absent.ensures ∙ c.if1.true in
+    let none : count_below (λ (d : ℕ). not (is_set z.here d)) g.drives ≡ 0 = sym c.count_absent-absent.ensures ∙ c.if-absent-eq0.true in
     let whole : stripe_of g.drives g.unit n * stripe_sectors g + fill_of g n ≤ n = omega (arith, stripe_below g.drives g.unit z.number (omega (arith, s.requires.0.drives_least)) s.requires.0.unit_least n) in
     sym (run_held g s.requires.0 z.here s.args.written.now z.number n s.requires.1.3 (stripe_of g.drives g.unit n * stripe_sectors g) (fill_of g n) none whole)
 
-pub earlier-held-spec : {M : Type 1} → statement M
-earlier-held-spec = tie.close (tie.spec (λ c κs. search rules) returns (λ c κs. search rules) (λ c. search rules))
+pub earlier_held_spec : {M : Type 1} → statement M
+earlier_held_spec = tie.close (tie.spec (λ c κs. search rules) returns (λ c κs. search rules) (λ c. search rules))

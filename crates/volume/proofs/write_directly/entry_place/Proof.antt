@@ -17,27 +17,27 @@ answer s none small =
     let a = s.args in
     pick none (record { alone = true; geometry = a.g }) (pick small (record { alone = false; geometry = a.g }) (entry_log a.g a.sectors.now a.written.now a.entry.drive (a.entry.sectors + reserve a.g)))
 
-returns : tie.Need-returns
+returns : tie.Need-returns-then-size-eq0
 returns c =
     let s = c.before.before.before in
     let a = s.args in
-    ap (λ (b : Bool). answer s b (ltb a.share a.entry.sectors)) (sym (eq-eqb a.entry.sectors 0 c.if1.true))
+    ap (λ (b : Bool). answer s b (ltb a.share a.entry.sectors)) (sym (eq-eqb a.entry.sectors 0 c.if-size-eq0.true))
 
-returns-2 : tie.Need-returns-2
+returns-2 : tie.Need-returns-then-share-size
 returns-2 c =
     let s = c.before.before.before.before in
     let a = s.args in
-    ap₂ (answer s) (sym (ne_eqb a.entry.sectors 0 c.before.if1.false)) (sym (lt-ltb a.share a.entry.sectors c.if2.true))
+    ap₂ (answer s) (sym (ne_eqb a.entry.sectors 0 c.if-size-eq0.false)) (sym (lt-ltb a.share a.entry.sectors c.if-share-size.true))
 
-returns-3 : tie.Need-returns-3
+returns-3 : tie.Need-returns
 returns-3 c =
     let e = c.before.before in
     let s = c.before.before.before.before.before.before in
     let a = s.args in
-    c.entry-log.ensures ∙ ap (entry_log a.g a.sectors.now a.written.now a.entry.drive) c.before.write-limit.ensures
-    ∙ ap₂ (answer s) (sym (ne_eqb a.entry.sectors 0 e.before.if1.false)) (sym (le-ltb a.share a.entry.sectors e.if2.false))
+    c.entry_log.ensures ∙ ap (entry_log a.g a.sectors.now a.written.now a.entry.drive) c.write_limit-limit.ensures
+    ∙ ap₂ (answer s) (sym (ne_eqb a.entry.sectors 0 e.if-size-eq0.false)) (sym (le-ltb a.share a.entry.sectors e.if-share-size.false))
 
-pub entry-place-spec : {M : Type 1} → statement M
-entry-place-spec =
+pub entry_place_spec : {M : Type 1} → statement M
+entry_place_spec =
     tie.close
     (tie.spec returns returns-2 (λ c κs. search rules) (λ c κs. search rules) returns-3)

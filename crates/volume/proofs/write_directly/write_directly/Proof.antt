@@ -30,52 +30,52 @@ front_of s = length-take-le (length s.args.written.now) (replicate 152 0) (few s
 abbrev past : tie.Start → List ℕ
 past s = drop (length s.args.written.now) (replicate 152 0)
 
-abbrev to_start : tie.After-copy-pointers → tie.Start
-to_start c = c.before.before.before.before.before.before
+abbrev to_start : tie.After-copy_pointers → tie.Start
+to_start c = c.before.before.before.before.before
 
-copied : (c : tie.After-copy-pointers) → c.copy-pointers.new.0 ≡ (to_start c).args.written.now
+copied : (c : tie.After-copy_pointers) → c.copy_pointers.new.dst ≡ (to_start c).args.written.now
 copied c =
     let ws = (to_start c).args.written.now in
-    c.copy-pointers.ensures ∙ overlay_all (take (length ws) (replicate 152 0)) ws (sym (front_of (to_start c)))
+    c.copy_pointers.ensures ∙ overlay_all (take (length ws) (replicate 152 0)) ws (sym (front_of (to_start c)))
 
-copy-long : (c : tie.After-copy-pointers) → length c.copy-pointers.new.0 ≡ length (to_start c).args.written.now
+copy-long : (c : tie.After-copy_pointers) → length c.copy_pointers.new.dst ≡ length (to_start c).args.written.now
 copy-long c = ap (λ (l : List ℕ). length l) (copied c)
 
 -- the copy, as it is handed on
-handed : (c : tie.After-copy-pointers) → take (length (to_start c).args.written.now) (c.copy-pointers.new.0 ++ past (to_start c)) ≡ (to_start c).args.written.now
-handed c = front_is (length (to_start c).args.written.now) c.copy-pointers.new.0 (past (to_start c)) (to_start c).args.written.now (copy-long c) (copied c)
+handed : (c : tie.After-copy_pointers) → take (length (to_start c).args.written.now) (c.copy_pointers.new.dst ++ past (to_start c)) ≡ (to_start c).args.written.now
+handed c = front_is (length (to_start c).args.written.now) c.copy_pointers.new.dst (past (to_start c)) (to_start c).args.written.now (copy-long c) (copied c)
 
-copy-pointers-requires : tie.Need-copy-pointers-requires
-copy-pointers-requires c κs = omega (arith, front_of c.before.before.before.before.before)
+copy-pointers-requires : tie.Need-copy_pointers-requires
+copy-pointers-requires c κs = omega (arith, front_of c.before.before.before.before)
 
-array-share-prefix-pointers : tie.Need-array-share-prefix-pointers
-array-share-prefix-pointers c = let f = c.before.before.before in front_fits (length (to_start f).args.written.now) f.copy-pointers.new.0 (past (to_start f)) (copy-long f)
+array-share-prefix-pointers : tie.Need-slice_bounds-pointers-end-2
+array-share-prefix-pointers c = let f = c.before.before.before in front_fits (length (to_start f).args.written.now) f.copy_pointers.new.dst (past (to_start f)) (copy-long f)
 
-slice-aggregate-write-all : tie.Need-slice-aggregate-write-all
-slice-aggregate-write-all c = let f = c.before.before.before.before in front_long (length (to_start f).args.written.now) f.copy-pointers.new.0 (past (to_start f)) (copy-long f)
+slice-aggregate-write-all : tie.Need-slice_bounds-write_all-end
+slice-aggregate-write-all c = let f = c.before.before.before.before in front_long (length (to_start f).args.written.now) f.copy_pointers.new.dst (past (to_start f)) (copy-long f)
 
-write-all-requires : tie.Need-write-all-requires
+write-all-requires : tie.Need-write_all-requires
 write-all-requires c κs =
-    let f = c.before.before.before.before in
+    let f = c.before.before.before.before.before in
     let s = to_start f in
     let a = s.args in
     let z = a.run.zone in
     let needed : List ℕ → Type 0 = λ ps. WriteReady z.geometry z.here a.sectors.now ps z.number z.generation a.run.pointer a.run.count a.buffer.now × StoresPast z.geometry a.to ps a.written.now in
-    (s.pre.0, subst needed (sym (handed f)) s.pre.1)
+    (s.requires.0, subst needed (sym (handed f)) s.requires.1)
 
 returns : tie.Need-returns
 unfolding run_stores_of
 returns c =
-    let w = c.before.before.before.before.write-all in
-    let f = c.before.before.before.before.before.before.before.before.before in
+    let w = c.write_all in
+    let f = c.before.before.before.before.before.before.before.before.before.before in
     let a = (to_start f).args in
     let z = a.run.zone in
     let made : List ℕ → Type 0 = λ ps. MadeAppends a.to a.budget w.result
     (on_present (is_set z.here) (write_with z.geometry z.number z.generation (run_content z.geometry (is_set z.here) (read_device z.geometry a.sectors.now ps) z.number z.generation a.run.pointer (sectors_in z.geometry a.run.count a.buffer.now)) a.run.pointer a.run.count))
-    a.sectors.now a.written.now w.new.0 w.new.1.0 in
+    a.sectors.now a.written.now w.new.sectors w.new.written in
     subst made (handed f) w.ensures
 
-pub write-directly-spec : {M : Type 1} → statement M
-write-directly-spec =
+pub write_directly_spec : {M : Type 1} → statement M
+write_directly_spec =
     tie.close
     (tie.spec (λ c. few c.before.before.before) (λ c. sym (front_of c.before.before.before.before)) copy-pointers-requires array-share-prefix-pointers slice-aggregate-write-all write-all-requires (λ c. search rules) (λ c. search rules) returns)

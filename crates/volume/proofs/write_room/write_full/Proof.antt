@@ -19,27 +19,27 @@ answer-is : (s : tie.Start) → let a = s.args in answer s (eqb a.entry.sectors 
 unfolding full_at
 answer-is s = refl
 
-returns : tie.Need-returns
+returns : tie.Need-returns-then-sectors-eq0
 returns c =
     let s = c.before.before in
     let a = s.args in
-    ap (λ (b : Bool). answer s b (ltb a.share a.entry.sectors)) (sym (eq-eqb a.entry.sectors 0 c.if1.true)) ∙ answer-is s
+    ap (λ (b : Bool). answer s b (ltb a.share a.entry.sectors)) (sym (eq-eqb a.entry.sectors 0 c.if-sectors-eq0.true)) ∙ answer-is s
 
-returns-2 : tie.Need-returns-2
+returns-2 : tie.Need-returns-then-share-sectors
 returns-2 c =
     let s = c.before.before.before in
     let a = s.args in
-    ap₂ (answer s) (sym (ne_eqb a.entry.sectors 0 c.before.if1.false)) (sym (lt-ltb a.share a.entry.sectors c.if2.true)) ∙ answer-is s
+    ap₂ (answer s) (sym (ne_eqb a.entry.sectors 0 c.if-sectors-eq0.false)) (sym (lt-ltb a.share a.entry.sectors c.if-share-sectors.true)) ∙ answer-is s
 
-returns-3 : tie.Need-returns-3
+returns-3 : tie.Need-returns
 returns-3 c =
     let e = c.before.before in
     let s = c.before.before.before.before.before in
     let a = s.args in
-    ap₂ (λ (x y : ℕ). ltb x y) c.parity-unused.ensures.0 c.before.write-limit.ensures
-    ∙ ap₂ (answer s) (sym (ne_eqb a.entry.sectors 0 e.before.if1.false)) (sym (le-ltb a.share a.entry.sectors e.if2.false)) ∙ answer-is s
+    ap₂ (λ (x y : ℕ). ltb x y) c.parity_unused-unused.ensures.0 c.write_limit-limit.ensures
+    ∙ ap₂ (answer s) (sym (ne_eqb a.entry.sectors 0 e.if-sectors-eq0.false)) (sym (le-ltb a.share a.entry.sectors e.if-share-sectors.false)) ∙ answer-is s
 
-pub write-full-spec : {M : Type 1} → statement M
-write-full-spec =
+pub write_full_spec : {M : Type 1} → statement M
+write_full_spec =
     tie.close
     (tie.spec returns returns-2 (λ c κs. search rules) (λ c κs. search rules) returns-3)

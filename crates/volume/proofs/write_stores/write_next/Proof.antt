@@ -18,31 +18,31 @@ ready s = let a = s.args in writing_ready a.known s.requires.0 a.sectors.now a.w
 valid : (s : tie.Start) → Valid s.args.known.to
 valid s = shape_valid s.args.known.geometry s.args.known.to s.requires.1.0.shape s.requires.0
 
-stripe-due-requires : tie.Need-stripe-due-requires
-stripe-due-requires c κs = let s = c.before.before.before.before.before in let r = ready s in (valid s, (r.zone_in_lem, r.end_most, s.requires.1.2, r.written_long))
+stripe-due-requires : tie.Need-stripe_due-due-requires
+stripe-due-requires c κs = let s = c.before.before.before.before in let r = ready s in (valid s, (r.zone_in_lem, r.end_most, s.requires.1.2, r.written_long))
 
-write-stripe-requires : tie.Need-write-stripe-requires
-write-stripe-requires c κs = let s = c.before.before.before.before.before.before.before.before.before in (valid s, (ready s, sym c.before.before.before.stripe-due.ensures ∙ c.before.before.if1.true))
+write-stripe-requires : tie.Need-write_stripe-rest-requires
+write-stripe-requires c κs = let s = c.before.before.before.before.before.before.before.before in (valid s, (ready s, sym c.stripe_due-due.ensures ∙ c.if-due.true))
 
 -- the stripe ends within the write
-abbrev to_start : tie.After-stripe-sectors → tie.Start
+abbrev to_start : tie.After-stripe_sectors-k → tie.Start
 to_start c = c.before.before.before.before.before.before.before.before.before.before.before.before.before.before.before
 
-ends : (c : tie.After-stripe-sectors) → (to_start c).args.a + c.stripe-sectors.result ≤ (to_start c).args.known.end
+ends : (c : tie.After-stripe_sectors-k) → (to_start c).args.a + c.stripe_sectors-k.result ≤ (to_start c).args.known.end
 ends c =
     let s = to_start c in
     let a = s.args in
     let xs = a.sectors.now in
     let ws = a.written.now in
-    let due = sym c.before.before.before.before.before.before.before.before.before.stripe-due.ensures ∙ c.before.before.before.before.before.before.before.before.if1.true in
-    omega (arith, due_end a.known (valid s) xs ws a.buffer.now a.a (ready s) a.budget due, writing_stripe a.known s.pre.0 xs ws a.pointers.now a.buffer.now s.pre.1.0, c.stripe-sectors.ensures.0)
+    let due = sym c.stripe_due-due.ensures ∙ c.if-due.true in
+    omega (arith, due_end a.known (valid s) xs ws a.buffer.now a.a (ready s) a.budget due, writing_stripe a.known s.requires.0 xs ws a.pointers.now a.buffer.now s.requires.1.0, c.stripe_sectors-k.ensures.0)
 
-returns : tie.Need-returns
+returns : tie.Need-returns-then-due
 returns c =
     let s = to_start c in
     let a = s.args in
-    let k = c.stripe-sectors in
-    let f = c.before.before.before.before.before.write-stripe in
+    let k = c.stripe_sectors-k in
+    let f = c.write_stripe-rest in
     let xs = a.sectors.now in
     let ws = a.written.now in
     let ps = a.pointers.now in
@@ -50,24 +50,24 @@ returns c =
     let e : a.a + k.result - a.a ≡ stripe_sectors a.known.geometry = omega (arith, k.ensures.0) in (
       omega (arith, k.ensures.1),
       ends c,
-      writing_made a.known s.pre.0 xs ws ps a.buffer.now s.pre.1.0 a.budget f.result a.a S f.new.0 f.new.1.0 (a.a + k.result - a.a) e
-          (f.ensures S (writing_new a.known s.pre.0 xs ws ps a.buffer.now s.pre.1.0)),
+      writing_made a.known s.requires.0 xs ws ps a.buffer.now s.requires.1.0 a.budget f.result a.a S f.new.sectors f.new.written (a.a + k.result - a.a) e
+          (f.ensures S (writing_new a.known s.requires.0 xs ws ps a.buffer.now s.requires.1.0)),
     )
 
-returns-2 : tie.Need-returns-2
+returns-2 : tie.Need-returns
 returns-2 c =
-    let s = c.before.before.before.before.before.before.before.before.before.before.before.before.before.before in
+    let s = c.before.before.before.before.before.before.before.before.before.before.before.before.before in
     let a = s.args in
-    let f = c.before.before.before.before.write-sector in
+    let f = c.write_sector-rest in
     let xs = a.sectors.now in
     let ws = a.written.now in
     let ps = a.pointers.now in
     let S = content_of a.known (read_device a.known.geometry xs ps) a.buffer.now in
     let e : a.a + 1 - a.a ≡ 1 = omega arith in
-    (omega arith, omega (arith, s.requires.1.2), writing_one a.known s.requires.0 xs ws ps a.buffer.now s.requires.1.0 a.budget f.result a.a S f.new.0 f.new.1.0 (a.a + 1 - a.a) e f.ensures)
+    (omega arith, omega (arith, s.requires.1.2), writing_one a.known s.requires.0 xs ws ps a.buffer.now s.requires.1.0 a.budget f.result a.a S f.new.sectors f.new.written (a.a + 1 - a.a) e f.ensures)
 
-pub write-next-spec : {M : Type 1} → statement M
-write-next-spec =
+pub write_next_spec : {M : Type 1} → statement M
+write_next_spec =
     tie.close
-    (tie.spec stripe-due-requires write-stripe-requires (λ c κs. search rules) (λ c. let s = to_start c in omega (arith, ends c, s.pre.1.0.end_most, (zone_small s.args.known.geometry s.pre.0).1)) (λ c. search rules) (λ c. search rules) returns
-    (λ c κs. search rules) (λ c. let s = c.before.before.before.before.before.before.before.before.before.before.before.before.before.before in omega (arith, s.requires.1.2, s.requires.1.0.end_most, (zone_small s.args.known.geometry s.requires.0).1)) (λ c. search rules) (λ c. search rules) returns-2)
+    (tie.spec stripe-due-requires write-stripe-requires (λ c κs. search rules) (λ c. let s = to_start c in omega (arith, ends c, s.requires.1.0.end_most, (zone_small s.args.known.geometry s.requires.0).1)) (λ c. search rules) (λ c. search rules) returns
+    (λ c κs. search rules) (λ c. let s = c.before.before.before.before.before.before.before.before.before.before.before.before.before in omega (arith, s.requires.1.2, s.requires.1.0.end_most, (zone_small s.args.known.geometry s.requires.0).1)) (λ c. search rules) (λ c. search rules) returns-2)

@@ -50,63 +50,63 @@ refuses s n r ne e same =
     (e ∙ ap (λ (k : ℕ). record { answer = Refused k; state = a.state }) same ∙ sym x, sym y)
 
 -- ---- refusals 1 to 4
-abbrev to_start : tie.After-opening → tie.Start
-to_start c = c.before.before.before.before.before.before.before
+abbrev to_start : tie.After-opening-first → tie.Start
+to_start c = c.before.before.before.before.before.before
 
-opened-as : (c : tie.After-opening) → let a = (to_start c).args in c.opening.result ≡ opening_of a.g a.named a.state (asked (to_start c)) a.sectors.now a.written.now a.durable.now
+opened-as : (c : tie.After-opening-first) → let a = (to_start c).args in c.opening-first.result ≡ opening_of a.g a.named a.state (asked (to_start c)) a.sectors.now a.written.now a.durable.now
 opened-as c =
     let a = (to_start c).args in
-    c.opening.ensures ∙ opening_is a.g a.named a.state c.before.before.input-within.result a.run (length a.buffer.now) (length a.sectors.now) a.written.now a.durable.now c.before.before.input-within.ensures
+    c.opening-first.ensures ∙ opening_is a.g a.named a.state c.input_within-within.result a.run (length a.buffer.now) (length a.sectors.now) a.written.now a.durable.now c.input_within-within.ensures
 
-opening-passed : (e : tie.Else1) → let a = (to_start e.before).args in opening_of a.g a.named a.state (asked (to_start e.before)) a.sectors.now a.written.now a.durable.now ≡ 0
-opening-passed e = let z : e.before.opening.result ≡ 0 = omega arith in sym (opened-as e.before) ∙ z
+opening-passed : (e : tie.Else-first-ne0) → let a = (to_start e.before).args in opening_of a.g a.named a.state (asked (to_start e.before)) a.sectors.now a.written.now a.durable.now ≡ 0
+opening-passed e = let z : e.opening-first.result ≡ 0 = omega arith in sym (opened-as e.before) ∙ z
 
-open_is : (e : tie.Else1) → let a = (to_start e.before).args in Opened a.g a.named a.state a.run (length a.buffer.now) (length a.sectors.now) a.written.now a.durable.now
+open_is : (e : tie.Else-first-ne0) → let a = (to_start e.before).args in Opened a.g a.named a.state a.run (length a.buffer.now) (length a.sectors.now) a.written.now a.durable.now
 open_is e = let a = (to_start e.before).args in opened a.g a.named a.state a.run (length a.buffer.now) (length a.sectors.now) a.written.now a.durable.now (opening-passed e)
 
-returns : tie.Need-returns
+returns : tie.Need-returns-then-first-ne0
 unfolding write_number
 returns c =
     let o = c.before.before in
     let s = to_start o in
     let a = s.args in
-    let same = opened-as o ∙ number_opening a.g a.named a.state (asked s) a.sectors.now a.written.now a.durable.now (λ k. c.before.if1.true (opened-as o ∙ k)) in
-    refuses s o.opening.result c.refused.result c.before.if1.true c.refused.ensures same
+    let same = opened-as o ∙ number_opening a.g a.named a.state (asked s) a.sectors.now a.written.now a.durable.now (λ k. c.if-first-ne0.true (opened-as o ∙ k)) in
+    refuses s o.opening-first.result c.refused.result c.if-first-ne0.true c.refused.ensures same
 
 -- ---- the zone
-returns-2 : tie.Need-returns-2
+returns-2 : tie.Need-returns-then-zones-z
 unfolding write_number
 returns-2 c =
     let e = c.before.before.before in
     let s = to_start e.before in
     let a = s.args in
-    let past : a.g.zones ≤ zone_asked a.g (asked s) = omega (arith, c.before.before.zone-of.ensures, c.before.if2.true) in
-    refuses s 8 c.refused2.result (λ k. absurd (omega (arith, k))) c.refused2.ensures (number_8 a.g a.named a.state (asked s) a.sectors.now a.written.now a.durable.now (opening-passed e) past)
+    let past : a.g.zones ≤ zone_asked a.g (asked s) = omega (arith, c.zone_of-z.ensures, c.if-zones-z.true) in
+    refuses s 8 c.refused-then-zones-z.result (λ k. absurd (omega (arith, k))) c.refused-then-zones-z.ensures (number_8 a.g a.named a.state (asked s) a.sectors.now a.written.now a.durable.now (opening-passed e) past)
 
-abbrev from-zone : tie.Else2 → tie.Start
+abbrev from-zone : tie.Else-zones-z → tie.Start
 from-zone f = to_start f.before.before.before
 
-zone-in : (f : tie.Else2) → let s = from-zone f in zone_asked s.args.g (asked s) < s.args.g.zones
-zone-in f = omega (arith, f.before.zone-of.ensures, f.if2.false)
+zone-in : (f : tie.Else-zones-z) → let s = from-zone f in zone_asked s.args.g (asked s) < s.args.g.zones
+zone-in f = omega (arith, f.zone_of-z.ensures, f.if-zones-z.false)
 
 small : (s : tie.Start) → s.args.run < 4294967296
 small s = omega (arith, s.well_formed)
 
-run-of-requires : tie.Need-run-of-requires
+run-of-requires : tie.Need-run_of-asked-requires
 run-of-requires c κs =
     let f = c.before.before in
-    ((open_is f.before.before).valid, (omega (arith, f.if2.false), c.offset-of.ensures.1, small (from-zone f)))
+    ((open_is f.before.before).valid, (omega (arith, f.if-zones-z.false), c.offset_of-offset.ensures.1, small (from-zone f)))
 
 -- ---- the run
-run_is : (c : tie.After-run-of) → let s = from-zone c.before.before.before in c.run_of.result ≡ run_now s.args.g s.args.named s.args.state (asked s)
+run_is : (c : tie.After-run_of-asked) → let s = from-zone c.before.before.before in c.run_of-asked.result ≡ run_now s.args.g s.args.named s.args.state (asked s)
 run_is c =
     let n = c.before in
     let f = n.before.before in
     let a = (from-zone f).args in
     let run : List Bool → ℕ → ℕ → Run = λ h z i. run_of a.g h a.state a.host z i a.run in
-    c.run_of.ensures ∙ ap (λ (h : List Bool). run h f.before.zone-of.result n.offset-of.result) n.before.present-drives.ensures ∙ ap₂ (run (present_list a.g a.named a.state.lost)) f.before.zone-of.ensures n.offset-of.ensures.0
+    c.run_of-asked.ensures ∙ ap (λ (h : List Bool). run h f.zone_of-z.result n.offset_of-offset.result) n.present_drives-here.ensures ∙ ap₂ (run (present_list a.g a.named a.state.lost)) f.zone_of-z.ensures n.offset_of-offset.ensures.0
 
-write-zone-requires : tie.Need-write-zone-requires
+write-zone-requires : tie.Need-write_zone-requires
 write-zone-requires c κs =
     let r = c.before.before in
     let n = r.before in
@@ -114,7 +114,7 @@ write-zone-requires c κs =
     let s = from-zone f in
     let a = s.args in
     let o = open_is f.before.before in
-    let starts : offset_of a.g a.address < zone_sectors a.g = rw (← n.offset-of.ensures.0) n.offset-of.ensures.1 in
+    let starts : offset_of a.g a.address < zone_sectors a.g = rw (← n.offset_of-offset.ensures.0) n.offset_of-offset.ensures.1 in
     let needed : Run → Type 0 = λ run. RunAsked run (record_at a.state run.zone.number).condition a.sectors.now a.written.now a.buffer.now × RunStated run (record_at a.state run.zone.number).condition a.state in
     let valid : Run → Type 0 = λ run. Valid run.zone.geometry in (
       subst valid (sym (run_is r)) o.valid,
@@ -124,9 +124,9 @@ write-zone-requires c κs =
       ),
     )
 
-returns-3 : tie.Need-returns-3
+returns-3 : tie.Need-returns
 returns-3 c =
-    let w = c.before.before.before.before.write-zone in
+    let w = c.write_zone in
     let r = c.before.before.before.before.before.before.before in
     let f = r.before.before.before in
     let s = from-zone f in
@@ -138,5 +138,5 @@ returns-3 c =
 pub write_spec : {M : Type 1} → statement M
 write_spec =
     tie.close
-    (tie.spec (λ c κs. search rules) (λ c κs. tested _ c.before.before.before.before.before.before.args.state _ c.before.input-within.ensures) (λ c κs. search rules) (λ c. search rules) returns (λ c κs. (open_is c).valid) (λ c κs. search rules) (λ c. search rules) returns-2
+    (tie.spec (λ c κs. search rules) (λ c κs. tested _ c.args.state _ c.input_within-within.ensures) (λ c κs. search rules) (λ c. search rules) returns (λ c κs. (open_is c).valid) (λ c κs. search rules) (λ c. search rules) returns-2
     (λ c κs. (open_is c.before.before).valid) (λ c κs. (open_is c.before.before.before).valid) run-of-requires write-zone-requires (λ c. search rules) (λ c. search rules) returns-3)

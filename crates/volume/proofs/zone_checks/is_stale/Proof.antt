@@ -17,39 +17,39 @@ use Rattle.volume.specs.checks.ZoneChecks.{stale_on}
 use Rattle.volume.proofs.zone_checks.is_stale.Statement.{statement}
 use Rattle.volume.proofs.zone_checks.is_stale.Tie as tie
 
-abbrev invariant-loop : tie.invariant-loop
+abbrev invariant-loop : tie.invariant-loop-d
 invariant-loop written g condition z here pointer at n stale₀ d₀ stale d =
     (d ≤ n) × (stale ≡ any_below (λ (i : ℕ). is_set here i && stale_in condition (get_or written (cell g i (data_zone z)) 0) (needed_of g.drives g.unit at i)) d)
 
-abbrev decreases-loop : tie.decreases-loop
+abbrev decreases-loop : tie.decreases-loop-d
 decreases-loop written g condition z here pointer at n stale₀ d₀ stale d = n - d
 
-stripe-at-requires : tie.Need-stripe-at-requires invariant-loop decreases-loop
-stripe-at-requires c κs = let s = c.before.before in (s.requires.0, rw c.pointer-of.ensures (s.requires.1.1, s.requires.1.2))
+stripe-at-requires : tie.Need-stripe_at-at-requires invariant-loop decreases-loop
+stripe-at-requires c κs = let s = c.before.before in (s.requires.0, rw c.pointer_of-pointer.ensures (s.requires.1.1, s.requires.1.2))
 
 -- where the pointer lies
-found : (c : tie.After-stripe-at invariant-loop decreases-loop) → let s = c.before.before.before in (c.stripe-at.result.stripe ≤ 65536) × (c.stripe-at.result.parity < s.args.g.drives)
+found : (c : tie.After-stripe_at-at invariant-loop decreases-loop) → let s = c.before.before.before in (c.stripe_at-at.result.stripe ≤ 65536) × (c.stripe_at-at.result.parity < s.args.g.drives)
 found c =
     let s = c.before.before.before in
-    rw (c.stripe-at.ensures, c.before.pointer-of.ensures) (stripe_at_fits s.args.g s.requires.0 s.args.z _ s.requires.1.2)
+    rw (c.stripe_at-at.ensures, c.pointer_of-pointer.ensures) (stripe_at_fits s.args.g s.requires.0 s.args.z _ s.requires.1.2)
 
-loop-holds : tie.Need-loop-init invariant-loop decreases-loop
+loop-holds : tie.Need-loop-d-init invariant-loop decreases-loop
 loop-holds c = (omega arith, refl)
 
-array-read-drive-stale : tie.Need-array-read-drive-stale invariant-loop decreases-loop
+array-read-drive-stale : tie.Need-bounds-here-d invariant-loop decreases-loop
 array-read-drive-stale c = let s = c.before.before.before.before.before in omega (arith, s.requires.0.drives_most)
 
-drive-stale-requires : tie.Need-drive-stale-requires invariant-loop decreases-loop
+drive-stale-requires : tie.Need-drive_stale-bad-requires invariant-loop decreases-loop
 drive-stale-requires c κs =
     let r = c.before.before in
     let s = r.before.before.before in
     (s.requires.0, (s.requires.1.0, s.requires.1.1, omega arith, (found r).0, (found r).1))
 
-add-d : tie.Need-overflow-add-d invariant-loop decreases-loop
+add-d : tie.Need-overflow_add-d invariant-loop decreases-loop
 add-d c = let s = c.before.before.before.before.before.before in omega (arith, s.requires.0.drives_most)
 
-loop-again : tie.Need-loop-preserved invariant-loop decreases-loop
-loop-again c = let l = c.before.before.loop in (omega arith, rw (l.invariant.1, c.drive-stale.ensures, add-one) refl)
+loop-again : tie.Need-loop-d-preserved invariant-loop decreases-loop
+loop-again c = let l = c.loop-d in (omega arith, rw (l.invariant.1, c.drive_stale-bad.ensures, add-one) refl)
 
 returns : tie.Need-returns invariant-loop decreases-loop
 unfolding stale_on needed
@@ -57,12 +57,12 @@ returns c =
     let r = c.before.before in
     let s = r.before.before.before in
     let a = s.args in
-    let l = c.before.loop in
+    let l = c.loop-d in
     let e : l.d ≡ a.g.drives = omega arith in
-    let stale : StripeAt → Bool = λ at. any_below (λ (i : ℕ). is_set a.t3 i && stale_in a.condition (get_or a.written.now (cell a.g i (data_zone a.z)) 0) (needed_of a.g.drives a.g.unit at i)) a.g.drives in
-    l.invariant.1 ∙ rw e refl ∙ ap stale (r.stripe-at.ensures ∙ ap (stripe_at a.g.drives a.g.unit a.z) r.before.pointer-of.ensures)
+    let stale : StripeAt → Bool = λ at. any_below (λ (i : ℕ). is_set a.here i && stale_in a.condition (get_or a.written.now (cell a.g i (data_zone a.z)) 0) (needed_of a.g.drives a.g.unit at i)) a.g.drives in
+    l.invariant.1 ∙ rw e refl ∙ ap stale (r.stripe_at-at.ensures ∙ ap (stripe_at a.g.drives a.g.unit a.z) r.pointer_of-pointer.ensures)
 
-pub is-stale-spec : {M : Type 1} → statement M
-is-stale-spec =
+pub is_stale_spec : {M : Type 1} → statement M
+is_stale_spec =
     tie.close
     (tie.spec invariant-loop decreases-loop (λ c κs. search rules) stripe-at-requires loop-holds array-read-drive-stale drive-stale-requires add-d (λ c. omega arith) loop-again returns)

@@ -16,22 +16,22 @@ use borrow.Author.Rules.{rules}
 use Rattle.volume.proofs.zone_looking.drive_clean.Statement.{statement}
 use Rattle.volume.proofs.zone_looking.drive_clean.Tie as tie
 
-returns : tie.Need-returns
-returns c = let a = c.before.before.before.before.args in rw (not-true (get_or a.zone.here a.d false) c.if1.true) refl
+returns : tie.Need-returns-then-not-present
+returns c = let a = c.args in rw (not-true (get_or a.zone.here a.d false) c.if-not-present.true-raw) refl
 
-returns-2 : tie.Need-returns-2
+returns-2 : tie.Need-returns
 returns-2 c =
     let s = c.before.before.before.before.before.before.before in
     let a = s.args in
-    let p : is_set a.zone.here a.d ≡ true = not-false (get_or a.zone.here a.d false) c.before.before.before.if1.false in
+    let p : is_set a.zone.here a.d ≡ true = not-false (get_or a.zone.here a.d false) c.if-not-present.false-raw in
     let h : data_zone a.zone.number < physical_zones a.zone.geometry = omega arith in
-    let n : c.before.before.zone-pointer.result ≡ length (read_device a.zone.geometry a.sectors.now a.written.now a.d (data_zone a.zone.number)).sectors = c.before.before.zone-pointer.ensures.0 ∙ zone_length a.zone.geometry a.sectors.now a.written.now a.d (data_zone a.zone.number) s.requires.1.1 h in
+    let n : c.zone_pointer-n.result ≡ length (read_device a.zone.geometry a.sectors.now a.written.now a.d (data_zone a.zone.number)).sectors = c.zone_pointer-n.ensures.0 ∙ zone_length a.zone.geometry a.sectors.now a.written.now a.d (data_zone a.zone.number) s.requires.1.1 h in
     let v = read_device a.zone.geometry a.sectors.now a.written.now in
     let whole = any_of (λ (e : Entry). ends_past a.zone.geometry a.zone.number a.zone.generation a.q e.head) (parity_entries a.zone.geometry v a.d) in
     let torn = ending_past a.zone.geometry a.zone.number a.zone.generation a.q (parity_ending a.zone.geometry v a.d) in
-    rw (p, n, c.before.sectors-needed.ensures.0, c.entry_past.ensures, neither whole torn) refl
+    rw (p, n, c.sectors_needed-needs.ensures.0, c.entry_past-past.ensures, neither whole torn) refl
 
-pub drive-clean-spec : {M : Type 1} → statement M
-drive-clean-spec =
+pub drive_clean_spec : {M : Type 1} → statement M
+drive_clean_spec =
     tie.close
     (tie.spec (λ c. search rules) returns (λ c. search rules) (λ c κs. search rules) (λ c κs. search rules) (λ c κs. search rules) returns-2)

@@ -5,14 +5,14 @@ use borrow.Author.Rules.{rules}
 use Rattle.volume.proofs.zone_looking.drive_generation.Statement.{statement}
 use Rattle.volume.proofs.zone_looking.drive_generation.Tie as tie
 
-returns : tie.Need-returns
-returns c = rw (not-true c.before.before.before.args.present c.if1.true) refl
+returns : tie.Need-returns-then-not-present
+returns c = rw (not-true c.args.present c.if-not-present.true-raw) refl
 
-last-generation-requires : tie.Need-last-generation-requires
+last-generation-requires : tie.Need-last_generation-requires
 last-generation-requires c κs = search rules
 
-returns-2 : tie.Need-returns-2
-returns-2 c = let a = c.before.before.before.before.args in c.last-generation.ensures ∙ rw (not-false a.present c.before.if1.false) refl
+returns-2 : tie.Need-returns
+returns-2 c = let a = c.args in c.last_generation.ensures ∙ rw (not-false a.present c.if-not-present.false-raw) refl
 
-pub drive-generation-spec : {M : Type 1} → statement M
-drive-generation-spec = tie.close (tie.spec returns last-generation-requires returns-2)
+pub drive_generation_spec : {M : Type 1} → statement M
+drive_generation_spec = tie.close (tie.spec returns last-generation-requires returns-2)

@@ -24,7 +24,7 @@ use Rattle.tables.specs.laws.Made.{WellSized}
 use Rattle.tables.specs.laws.Within.{part_long}
 use Rattle.tables.specs.meaning.Xor.{xor_bytes, xor_below, without}
 use Rattle.tables.specs.laws.Xor.{xor_bytes_comm, xor_below_length, without_self, without_other, length_xor}
-use Rattle.logs.specs.meaning.Entry.{parity_zone, Header, partial_parity, Entry, rows_of, fits_log}
+use Rattle.logs.specs.meaning.Entry.{parity_zone, Header, label, counters, zone_reset, partial_parity, seal, closing, Entry, rows_of, fits_log}
 use Rattle.logs.specs.meaning.Walk.{walk_log}
 use Rattle.logs.specs.code.Steps.{Stands, Placed}
 use Rattle.logs.specs.laws.Legal.{legal_fits}
@@ -134,11 +134,11 @@ serving_one g z n limit x e (partial_parity y s f m) q k = go (eqb y z && (eqb m
     go true (Memᴰ.head p) = rw p (record { entry = x; zone = y; fill = f; round = m; in_log = Memᴰ.head refl; head_is = q; end_is = refl; rows_are = λ r. refl })
     go false x4 = elim x4 [ ]
     go true (mathlib.Core.List.Memᴰ.tail x9) = elim x9 [ ]
-serving_one g z n limit x e (Rattle.logs.specs.meaning.Entry.label _ _) q k = elim k [ ]
-serving_one g z n limit x e (Rattle.logs.specs.meaning.Entry.counters _) q k = elim k [ ]
-serving_one g z n limit x e (Rattle.logs.specs.meaning.Entry.zone_reset _ _) q k = elim k [ ]
-serving_one g z n limit x e (Rattle.logs.specs.meaning.Entry.seal _ _ _) q k = elim k [ ]
-serving_one g z n limit x e (Rattle.logs.specs.meaning.Entry.closing _ _) q k = elim k [ ]
+serving_one g z n limit x e (label _ _) q k = elim k [ ]
+serving_one g z n limit x e (counters _) q k = elim k [ ]
+serving_one g z n limit x e (zone_reset _ _) q k = elim k [ ]
+serving_one g z n limit x e (seal _ _ _) q k = elim k [ ]
+serving_one g z n limit x e (closing _ _) q k = elim k [ ]
 
 more_serving : (g : Geometry) (xs es : List Entry) (e : ParityEntry) → ((x : Entry) → Memᴰ x xs → Memᴰ x es) → Serving g xs e → Serving g es e
 more_serving g xs es e h s = record { entry = s.entry; zone = s.zone; fill = s.fill; round = s.round; in_log = h s.entry s.in_log; head_is = s.head_is; end_is = s.end_is; rows_are = s.rows_are }

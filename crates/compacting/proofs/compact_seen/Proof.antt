@@ -64,49 +64,49 @@ valid : (s : tie.Start) → Valid s.args.places.geometry
 valid s = let a = s.args in placed_valid a.job.first a.places a.sectors.now a.written.now a.pointers.now (seen s) s.requires.0
 
 -- ---- refusal 14
-compact-asks-requires : tie.Need-compact-asks-requires
+compact-asks-requires : tie.Need-compact_asks-asked-requires
 compact-asks-requires c κs = let s = c.before.before.before.before.before in (s.requires.0, (ready s).drive_in)
 
-parity-room-requires : tie.Need-parity-room-requires
+parity-room-requires : tie.Need-parity_room-room-requires
 parity-room-requires c κs =
-    let s = c.before.before.before.before.before.before.before.before.before.before in
+    let s = c.before.before.before.before.before.before.before.before in
     let a = s.args in
     let needed : RoomAsked → List ℕ → Type 0 = λ q ps. Valid q.first × (Asking q a.sectors.now a.written.now a.pointers.now × PointersWithin q.first ps) in
-    subst (λ (q : RoomAsked). needed q c.before.before.before.points-of.result) (sym c.before.before.before.before.compact-asks.ensures)
-    (subst (needed (asked s)) (sym c.before.before.before.points-of.ensures) (s.requires.0, (seen s, points_within a.job.first a.state s.requires.0 (ready s).within)))
+    subst (λ (q : RoomAsked). needed q c.points_of-points.result) (sym c.compact_asks-asked.ensures)
+    (subst (needed (asked s)) (sym c.points_of-points.ensures) (s.requires.0, (seen s, points_within a.job.first a.state s.requires.0 (ready s).within)))
 
-abbrev to_start : tie.After-parity-room → tie.Start
-to_start r = r.before.before.before.before.before.before.before.before.before.before.before
+abbrev to_start : tie.After-parity_room-room → tie.Start
+to_start r = r.before.before.before.before.before.before.before.before.before
 
-room-is : (r : tie.After-parity-room) → r.parity-room.result ≡ room (to_start r)
+room-is : (r : tie.After-parity_room-room) → r.parity_room-room.result ≡ room (to_start r)
 room-is r =
     let a = (to_start r).args in
-    r.parity-room.ensures ∙ ap₂ (λ (q : RoomAsked) (ps : List ℕ). room_of (parity_room_at q ps a.sectors.now a.written.now a.pointers.now) q.first.drives) r.before.before.before.before.before.compact-asks.ensures r.before.before.before.before.points-of.ensures
+    r.parity_room-room.ensures ∙ ap₂ (λ (q : RoomAsked) (ps : List ℕ). room_of (parity_room_at q ps a.sectors.now a.written.now a.pointers.now) q.first.drives) r.compact_asks-asked.ensures r.points_of-points.ensures
 
-full_is : (r : tie.After-parity-room) → r.parity-room.result.full ≡ full_in (to_start r).args.job (to_start r).args.state (given (to_start r))
+full_is : (r : tie.After-parity_room-room) → r.parity_room-room.result.full ≡ full_in (to_start r).args.job (to_start r).args.state (given (to_start r))
 full_is r =
     let s = to_start r in
     let a = s.args in
-    ap (λ (x : LogRoom). x.full) (room-is r) ∙ room_full a.job a.places a.state a.sectors.now a.written.now a.pointers.now a.durable.now (seen s) s.pre.0 (ready s).drive_in
+    ap (λ (x : LogRoom). x.full) (room-is r) ∙ room_full a.job a.places a.state a.sectors.now a.written.now a.pointers.now a.durable.now (seen s) s.requires.0 (ready s).drive_in
 
-returns : tie.Need-returns
+returns : tie.Need-returns-then-room
 unfolding compact_seen_on
 returns c =
     let r = c.before.before in
     let s = to_start r in
     let a = s.args in
-    let n : number s ≡ 14 = ap (λ (b : Bool). pick b 14 (pick (gone_in a.job a.state (given s)) 15 0)) (sym (full_is r) ∙ c.before.if1.true) in
+    let n : number s ≡ 14 = ap (λ (b : Bool). pick b 14 (pick (gone_in a.job a.state (given s)) 15 0)) (sym (full_is r) ∙ c.if-room.true) in
     let (p, q) = storing_refused a.job.first (number s) (stores s) (next s) a.state a.count (given s) (λ k. let z : ◌≡◌ {A = ℕ} 14 0 = sym n ∙ k in absurd (omega (arith, z))) in
     let refused : ℕ → Outcome = λ k. record { answer = Refused k; state = a.state } in
     (c.refused.ensures ∙ ap refused (sym n) ∙ sym p, sym q)
 
 -- ---- refusal 15
-copies-gone-requires : tie.Need-copies-gone-requires
+copies-gone-requires : tie.Need-copies_gone-requires
 copies-gone-requires c κs =
-    let s = c.before.before.before.before.before.before.before.before.before.before.before.before.before.before.before.before in
+    let s = c.before.before.before.before.before.before.before.before.before.before.before.before.before.before in
     let a = s.args in
-    let points = c.before.before.before.before.before.before.before.before.before.points-of in
-    let generations = c.before.before.before.generations-of in
+    let points = c.points_of-points in
+    let generations = c.generations_of-generations in
     let needed : List ℕ → List ℕ → Type 0 = λ gs qs. Valid a.places.geometry × (CopiesReady a.places.geometry a.job.here a.sectors.now a.pointers.now gs qs × (a.job.drive < a.places.geometry.drives)) in
     subst (λ (gs : List ℕ). needed gs points.result) (sym generations.ensures) (subst (needed (generations_in a.state)) (sym points.ensures) (
       valid s,
@@ -116,10 +116,10 @@ copies-gone-requires c κs =
       ),
     ))
 
-abbrev from-gone : tie.After-copies-gone → tie.Start
-from-gone x = x.before.before.before.before.before.before.before.before.before.before.before.before.before.before.before.before.before
+abbrev from-gone : tie.After-copies_gone → tie.Start
+from-gone x = x.before.before.before.before.before.before.before.before.before.before.before.before.before.before.before
 
-abbrev gone-room : tie.After-copies-gone → tie.After-parity-room
+abbrev gone-room : tie.After-copies_gone → tie.After-parity_room-room
 gone-room x = x.before.before.before.before.before.before
 
 -- as the code finds it
@@ -129,88 +129,88 @@ goneOf s gs qs =
     let v = read_device a.places.geometry a.sectors.now a.pointers.now in
     gone_for_copies a.places.geometry (is_set a.job.here) (in_force_of a.places.geometry (is_set a.job.here) v gs qs) v a.job.drive
 
-gone_at : (x : tie.After-copies-gone) → x.copies-gone.result ≡ goneOf (from-gone x) (generations_in (from-gone x).args.state) (points_in (from-gone x).args.state)
-gone_at x = x.copies-gone.ensures ∙ ap₂ (goneOf (from-gone x)) x.before.before.before.before.generations-of.ensures x.before.before.before.before.before.before.before.before.before.before.points-of.ensures
+gone_at : (x : tie.After-copies_gone) → x.copies_gone.result ≡ goneOf (from-gone x) (generations_in (from-gone x).args.state) (points_in (from-gone x).args.state)
+gone_at x = x.copies_gone.ensures ∙ ap₂ (goneOf (from-gone x)) x.generations_of-generations.ensures x.points_of-points.ensures
 
-gone-is : (x : tie.After-copies-gone) → x.copies-gone.result ≡ gone_in (from-gone x).args.job (from-gone x).args.state (given (from-gone x))
+gone-is : (x : tie.After-copies_gone) → x.copies_gone.result ≡ gone_in (from-gone x).args.job (from-gone x).args.state (given (from-gone x))
 gone-is x =
     let s = from-gone x in
     let a = s.args in
-    gone_at x ∙ copies_gone_is a.job.first a.places a.sectors.now a.written.now a.pointers.now (seen s) a.durable.now (is_set a.job.here) a.state s.pre.0 a.job.drive
+    gone_at x ∙ copies_gone_is a.job.first a.places a.sectors.now a.written.now a.pointers.now (seen s) a.durable.now (is_set a.job.here) a.state s.requires.0 a.job.drive
 
 -- the log has room
-not_full : (x : tie.After-copies-gone) → (gone-room x).parity-room.result.full ≡ false
-not_full x = x.before.before.before.before.before.if1.false
+not_full : (x : tie.After-copies_gone) → (gone-room x).parity_room-room.result.full ≡ false
+not_full x = x.if-room.false
 
-number_is : (x : tie.After-copies-gone) → number (from-gone x) ≡ pick x.copies-gone.result 15 0
+number_is : (x : tie.After-copies_gone) → number (from-gone x) ≡ pick x.copies_gone.result 15 0
 number_is x = ap₂ (λ (b d : Bool). pick b 14 (pick d 15 0)) (sym (full_is (gone-room x)) ∙ not_full x) (sym (gone-is x))
 
-returns-2 : tie.Need-returns-2
+returns-2 : tie.Need-returns-then-copies_gone
 unfolding compact_seen_on
 returns-2 c =
     let x = c.before.before in
     let s = from-gone x in
     let a = s.args in
-    let n : number s ≡ 15 = number_is x ∙ ap (λ (b : Bool). pick b 15 0) c.before.if2.true in
+    let n : number s ≡ 15 = number_is x ∙ ap (λ (b : Bool). pick b 15 0) c.if-copies_gone.true in
     let (p, q) = storing_refused a.job.first (number s) (stores s) (next s) a.state a.count (given s) (λ k. let z : ◌≡◌ {A = ℕ} 15 0 = sym n ∙ k in absurd (omega (arith, z))) in
     let refused : ℕ → Outcome = λ k. record { answer = Refused k; state = a.state } in
-    (c.refused2.ensures ∙ ap refused (sym n) ∙ sym p, sym q)
+    (c.refused-then-copies_gone.ensures ∙ ap refused (sym n) ∙ sym p, sym q)
 
 -- ---- the stores
-emptyings-of-requires : tie.Need-emptyings-of-requires
-emptyings-of-requires c κs = subst (λ (q : RoomAsked). Valid q.places.geometry) (sym (gone-room c.before).before.before.before.before.before.compact-asks.ensures) (valid (from-gone c.before))
+emptyings-of-requires : tie.Need-emptyings_of-all-requires
+emptyings-of-requires c κs = subst (λ (q : RoomAsked). Valid q.places.geometry) (sym (gone-room c.before).compact_asks-asked.ensures) (valid (from-gone c.before))
 
-all-is : (y : tie.After-emptyings-of) → y.emptyings-of.result ≡ emptyings_of (asked (from-gone y.before.before)) (room (from-gone y.before.before))
-all-is y = let r = gone-room y.before.before in y.emptyings-of.ensures ∙ ap₂ emptyings_of r.before.before.before.before.before.compact-asks.ensures (room-is r)
+all-is : (y : tie.After-emptyings_of-all) → y.emptyings_of-all.result ≡ emptyings_of (asked (from-gone y.before.before)) (room (from-gone y.before.before))
+all-is y = let r = gone-room y.before.before in y.emptyings_of-all.ensures ∙ ap₂ emptyings_of r.compact_asks-asked.ensures (room-is r)
 
-slice-aggregate-empty-parity-on-2 : tie.Need-slice-aggregate-empty-parity-on-2
+slice-aggregate-empty-parity-on-2 : tie.Need-slice_bounds-empty_parity_on-end-2
 slice-aggregate-empty-parity-on-2 c =
     let x = c.before.before.before.before.before.before.before.before in
-    sym (ap length x.before.before.before.before.before.before.before.before.before.before.points-of.ensures ∙ points_in_long (from-gone x).args.state)
+    sym (ap length x.points_of-points.ensures ∙ points_in_long (from-gone x).args.state)
 
-empty-parity-on-requires : tie.Need-empty-parity-on-requires
+empty-parity-on-requires : tie.Need-empty_parity_on-rest-requires
 empty-parity-on-requires c κs =
     let y = c.before.before.before.before.before.before in
     let x = y.before.before in
     let s = from-gone x in
     let a = s.args in
-    let points = x.before.before.before.before.before.before.before.before.before.before.points-of in
-    let generations = x.before.before.before.before.generations-of in
+    let points = x.points_of-points in
+    let generations = x.generations_of-generations in
     let needed : Emptyings → List ℕ → List ℕ → Type 0 = λ e gs qs. Valid e.from × (EmptyingReady true e a.pointers.now a.sectors.now a.written.now a.durable.now × ParityKnown e gs qs a.pointers.now a.sectors.now a.written.now a.job.drive) in
     subst (λ (e : Emptyings). needed e generations.result points.result) (sym (all-is y)) (subst (λ (gs : List ℕ). needed (emptyings_of (asked s) (room s)) gs points.result) (sym generations.ensures) (subst (needed (emptyings_of (asked s) (room s)) (generations_in a.state)) (sym points.ensures) (
       valid s,
       (
         room_ready (asked s) (room s) a.sectors.now a.written.now a.pointers.now (seen s) a.durable.now (ready s).durable_long,
-        parity_known a.job a.places a.state a.sectors.now a.written.now a.pointers.now a.durable.now (seen s) s.pre.0 (ready s) (sym (gone_at x) ∙ y.before.if2.false),
+        parity_known a.job a.places a.state a.sectors.now a.written.now a.pointers.now a.durable.now (seen s) s.requires.0 (ready s) (sym (gone_at x) ∙ y.if-copies_gone.false),
       ),
     )))
 
 outcome-requires : tie.Need-outcome-requires
-outcome-requires c κs = let s = from-gone c.before.before.before.before.before.before.before.before.before.before.before.before.before.before.before in (s.pre.0, ((ready s).drive_in, (ready s).within))
+outcome-requires c κs = let s = from-gone c.before.before.before.before.before.before.before.before.before.before.before.before.before.before.before in (s.requires.0, ((ready s).drive_in, (ready s).within))
 
 -- what was stored, as the call's stores
-made : (f : tie.After-empty-parity-on) → let s = from-gone f.before.before.before.before.before.before.before.before.before in let w = f.empty-parity-on in
-    Made s.args.job.first (suc s.args.count) w.result (stores s) (given s) (tables_of w.new.0 w.new.1.0 w.new.1.1.0)
+made : (f : tie.After-empty_parity_on-rest) → let s = from-gone f.before.before.before.before.before.before.before.before.before in let w = f.empty_parity_on-rest in
+    Made s.args.job.first (suc s.args.count) w.result (stores s) (given s) (tables_of w.new.sectors w.new.written w.new.durable)
 made f =
     let y = f.before.before.before.before.before.before.before in
     let x = y.before.before in
     let s = from-gone x in
     let a = s.args in
-    let w = f.empty-parity-on in
-    let points = x.before.before.before.before.before.before.before.before.before.before.points-of in
-    let generations = x.before.before.before.before.generations-of in
-    let end : Tables = tables_of w.new.0 w.new.1.0 w.new.1.1.0 in
+    let w = f.empty_parity_on-rest in
+    let points = x.points_of-points in
+    let generations = x.generations_of-generations in
+    let end : Tables = tables_of w.new.sectors w.new.written w.new.durable in
     let emptied : Emptyings → List ℕ → List ℕ → ℕ → Type 0 = λ e gs qs b. Made e.to b w.result (emptied_on e true (new_parity_on e gs qs a.sectors.now a.pointers.now a.job.drive) a.job.drive) (given s) end in
     let all = emptyings_of (asked s) (room s) in
-    let budget = f.before.before.before.before.before.before.budget-of in
+    let budget = f.budget_of-budget in
     let m₁ = subst (λ (e : Emptyings). emptied e generations.result points.result budget.result) (all-is y) w.ensures in
     let m₂ = subst (λ (gs : List ℕ). emptied all gs points.result budget.result) generations.ensures m₁ in
     let m₃ = subst (λ (qs : List ℕ). emptied all (generations_in a.state) qs budget.result) points.ensures m₂ in
     let m₄ = subst (emptied all (generations_in a.state) (points_in a.state)) budget.ensures m₃ in
-    compact_made a.job a.places a.state a.sectors.now a.written.now a.pointers.now a.durable.now (seen s) s.pre.0 (ready s)
+    compact_made a.job a.places a.state a.sectors.now a.written.now a.pointers.now a.durable.now (seen s) s.requires.0 (ready s)
     (sym (ap (λ (q : LogRoom). q.full) (room-is (gone-room x))) ∙ not_full x) (suc a.count) w.result end m₄
 
-returns-3 : tie.Need-returns-3
+returns-3 : tie.Need-returns
 unfolding compact_seen_on
 returns-3 c =
     let f = c.before.before.before.before.before.before.before in
@@ -218,13 +218,13 @@ returns-3 c =
     let x = y.before.before in
     let s = from-gone x in
     let a = s.args in
-    let w = f.empty-parity-on in
-    let n : number s ≡ 0 = number_is x ∙ ap (λ (b : Bool). pick b 15 0) y.before.if2.false in
-    let (p, q) = storing_ends a.job.first (number s) (stores s) (next s) a.state a.count (given s) w.result (tables_of w.new.0 w.new.1.0 w.new.1.1.0) n (made f) in
-    (c.outcome.ensures ∙ ended_is a.job a.state (given s) w.result s.pre.0 ∙ p, q)
+    let w = f.empty_parity_on-rest in
+    let n : number s ≡ 0 = number_is x ∙ ap (λ (b : Bool). pick b 15 0) y.if-copies_gone.false in
+    let (p, q) = storing_ends a.job.first (number s) (stores s) (next s) a.state a.count (given s) w.result (tables_of w.new.sectors w.new.written w.new.durable) n (made f) in
+    (c.outcome.ensures ∙ ended_is a.job a.state (given s) w.result s.requires.0 ∙ p, q)
 
-pub compact-seen-spec : {M : Type 1} → statement M
-compact-seen-spec =
+pub compact_seen_spec : {M : Type 1} → statement M
+compact_seen_spec =
     tie.close
     (tie.spec compact-asks-requires (λ c κs. search rules) (λ c. search rules) parity-room-requires (λ c κs. search rules) (λ c. search rules) (λ c. search rules) returns (λ c κs. search rules) (λ c. search rules) (λ c. search rules)
     copies-gone-requires (λ c κs. search rules) (λ c. search rules) (λ c. search rules) returns-2 emptyings-of-requires (λ c κs. search rules) (λ c. search rules) slice-aggregate-empty-parity-on-2 empty-parity-on-requires outcome-requires

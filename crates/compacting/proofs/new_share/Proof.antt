@@ -9,18 +9,18 @@ use borrow.Author.Rules.{rules}
 use Rattle.compacting.proofs.new_share.Statement.{statement}
 use Rattle.compacting.proofs.new_share.Tie as tie
 
-parity-size-requires : tie.Need-parity-size-requires
+parity-size-requires : tie.Need-parity_size-size-requires
 parity-size-requires c κs =
     let s = c.before.before.before in
     let a = s.args in
-    (s.requires.0, subst (PointersWithin a.job.first) (sym c.before.points-of.ensures) (points_within a.job.first a.state s.requires.0 s.requires.1.1))
+    (s.requires.0, subst (PointersWithin a.job.first) (sym c.points_of-points.ensures) (points_within a.job.first a.state s.requires.0 s.requires.1.1))
 
 returns : tie.Need-returns
 returns c =
-    let a = c.before.before.before.before.before.before.args in
+    let a = c.args in
     let size : List ℕ → ℕ = λ qs. new_parity_size a.job.first (by_pointers qs) a.job.drive in
-    c.half-past.ensures
-    ∙ ap (half_past a.job.first) (c.before.saturating-sub.ensures ∙ ap (λ (n : ℕ). a.job.first.capacity - n) (c.before.before.parity-size.ensures ∙ ap size c.before.before.before.before.points-of.ensures))
+    c.half_past.ensures
+    ∙ ap (half_past a.job.first) (c.saturating_sub-unused.ensures ∙ ap (λ (n : ℕ). a.job.first.capacity - n) (c.parity_size-size.ensures ∙ ap size c.points_of-points.ensures))
 
-pub new-share-spec : {M : Type 1} → statement M
-new-share-spec = tie.close (tie.spec (λ c κs. search rules) (λ c. search rules) parity-size-requires (λ c κs. search rules) (λ c κs. search rules) returns)
+pub new_share_spec : {M : Type 1} → statement M
+new_share_spec = tie.close (tie.spec (λ c κs. search rules) (λ c. search rules) parity-size-requires (λ c κs. search rules) (λ c κs. search rules) returns)

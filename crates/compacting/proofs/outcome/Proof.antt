@@ -14,17 +14,17 @@ use Rattle.compacting.proofs.outcome.Statement.{statement}
 use Rattle.compacting.proofs.outcome.Tie as tie
 
 sixteen : (s : tie.Start) → Sixteen s.args.state
-sixteen s = record { records = mapped_long _ s.args.state.zones 16 s.well_formed.1.0.1.1.1.0.1.0.1; shares = mapped_long _ s.args.state.shares 16 s.well_formed.1.0.1.1.1.1.0.1.0.1 }
+sixteen s = record { records = s.well_formed.1.0.1.1.1.0.1.0.1; shares = s.well_formed.1.0.1.1.1.1.0.1.0.1 }
 
 returns : tie.Need-returns
 unfolding ended_with
 returns c =
-    let s = c.before.before.before.before.before.before.before in
+    let s = c.before.before.before.before.before.before.before.before in
     let a = s.args in
     let next : ℕ → List ℕ → State = λ x ns. record { lost = x; zones = a.state.zones; shares = ns } in
     let ended : State → Outcome = λ t. pick (eqb a.rest 0) (record { answer = Unfinished; state = a.state }) (record { answer = Finished; state = t }) in
-    let shares = c.before.before.before.renewed.ensures ∙ ap (renewed_list a.state.shares a.job.drive) c.before.before.before.before.before.new-share.ensures in
-    c.ended.ensures ∙ ap ended (ap₂ next c.before.before.left_out.ensures shares ∙ ended_state a.job a.state (sixteen s) (omega (arith, s.requires.1.0, s.requires.0.drives_most)))
+    let shares = c.renewed-shares.ensures ∙ ap (renewed_list a.state.shares a.job.drive) c.new_share-share.ensures in
+    c.ended.ensures ∙ ap ended (ap₂ next c.left_out-lost.ensures shares ∙ ended_state a.job a.state (sixteen s) (omega (arith, s.requires.1.0, s.requires.0.drives_most)))
 
-pub outcome-spec : {M : Type 1} → statement M
-outcome-spec = tie.close (tie.spec (λ c κs. search rules) (λ c κs. search rules) (λ c κs. search rules) (λ c κs. search rules) returns)
+pub outcome_spec : {M : Type 1} → statement M
+outcome_spec = tie.close (tie.spec (λ c κs. search rules) (λ c κs. search rules) (λ c κs. search rules) (λ c κs. search rules) returns)

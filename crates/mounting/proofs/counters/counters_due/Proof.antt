@@ -6,7 +6,7 @@ use Rattle.mounting.proofs.counters.counters_due.Tie as tie
 
 returns : tie.Need-returns
 unfolding counters_due
-returns c = rw c.any-empty.ensures refl
+returns c = rw c.any_empty-empty.ensures refl
 
-pub counters-due-spec : {M : Type 1} → statement M
-counters-due-spec = tie.close (tie.spec (λ c κs. search rules) returns)
+pub counters_due_spec : {M : Type 1} → statement M
+counters_due_spec = tie.close (tie.spec (λ c κs. search rules) returns)

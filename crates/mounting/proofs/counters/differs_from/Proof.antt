@@ -5,12 +5,12 @@ use borrow.Author.Rules.{rules}
 use Rattle.mounting.proofs.counters.differs_from.Statement.{statement}
 use Rattle.mounting.proofs.counters.differs_from.Tie as tie
 
-returns : tie.Need-returns
-returns c = let a = c.before.before.before.args in rw (not-true (is_set a.t4 a.e) c.if1.true) refl
+returns : tie.Need-returns-then-not-present
+returns c = let a = c.args in rw (not-true (is_set a.here a.e) c.if-not-present.true-raw) refl
 
-returns-2 : tie.Need-returns-2
-returns-2 c = let a = c.before.before.before.before.args in rw (not-false (is_set a.t4 a.e) c.before.if1.false, c.same-counters.ensures) refl
+returns-2 : tie.Need-returns
+returns-2 c = let a = c.args in rw (not-false (is_set a.here a.e) c.if-not-present.false-raw, c.same_counters-same.ensures) refl
 
-pub differs-from-spec : {M : Type 1} → statement M
-differs-from-spec =
+pub differs_from_spec : {M : Type 1} → statement M
+differs_from_spec =
     tie.close (tie.spec (λ c. search rules) returns (λ c κs. search rules) returns-2)

@@ -13,18 +13,18 @@ use Rattle.mounting.proofs.ends.parity_step.Statement.{statement}
 use Rattle.mounting.proofs.ends.parity_step.Tie as tie
 
 -- the arrays of the look, as the code has made them
-empty-parities-requires : tie.Need-empty-parities-requires
+empty-parities-requires : tie.Need-empty_parities-rest-requires
 empty-parities-requires c κs =
     let s = c.before.before.before.before.before.before.before.before.before.before.before.before.before in
     let a = s.args in
-    let gs = c.before.before.before.before.before.before.before.generations-shown in
-    let qs = c.before.before.before.before.before.before.points-shown in
+    let gs = c.generations_shown-generations in
+    let qs = c.points_shown-points in
     let ready : List ℕ → List ℕ → Type 0 = λ x y. ParitiesReady a.all x y a.pointers.now a.starts.now a.sectors.now a.written.now a.durable.now in
     (s.requires.0, subst (λ (x : List ℕ). ready x qs.result) (sym gs.ensures) (subst (ready (generations_shown a.look)) (sym qs.ensures) s.requires.1))
 
-flush-after-requires : tie.Need-flush-after-requires
+flush-after-requires : tie.Need-flush_after-requires
 flush-after-requires c κs =
-    let f = c.before.before.before.before.before.before.before.before.empty-parities in
+    let f = c.empty_parities-rest in
     let s = c.before.before.before.before.before.before.before.before.before.before.before.before.before.before.before.before.before.before.before.before.before.before in
     let all = s.args.all in
     let shape = s.requires.1.ready.shape in
@@ -33,25 +33,25 @@ flush-after-requires c κs =
 
 returns : tie.Need-returns
 returns c =
-    let h = c.before.before.flush-after in
-    let f = c.before.before.before.before.before.before.before.before.before.before.before.empty-parities in
+    let h = c.flush_after in
+    let f = c.empty_parities-rest in
     let s = c.before.before.before.before.before.before.before.before.before.before.before.before.before.before.before.before.before.before.before.before.before.before.before.before.before in
-    let gs = c.before.before.before.before.before.before.before.before.before.before.before.before.before.before.before.before.before.before.before.generations-shown in
-    let qs = c.before.before.before.before.before.before.before.before.before.before.before.before.before.before.before.before.before.before.points-shown in
+    let gs = c.generations_shown-generations in
+    let qs = c.points_shown-points in
     let a = s.args in
     let t = tables_of a.sectors.now a.written.now a.durable.now in
-    let u = tables_of f.new.0 f.new.1.0 f.new.1.1.0 in
+    let u = tables_of f.new.sectors f.new.written f.new.durable in
     let emptied : List ℕ → List ℕ → Type 0 = λ x y. ParitiesEmptied a.all x y a.pointers.now a.starts.now a.budget f.result t u in
     let e : emptied (generations_shown a.look) (points_shown a.look) = subst (emptied (generations_shown a.look)) qs.ensures (subst (λ (x : List ℕ). emptied x qs.result) gs.ensures f.ensures) in
     let stores = parity_stores a.all a.look a.pointers.now a.starts.now a.sectors.now in
     record {
-      made = λ on. h.ensures.made f.new.0 stores t (subst (λ (l : List Store). Made a.all.to a.budget f.result l t u) (sym on) e.made);
-      sized = record { sectors_long = e.sized.sectors_long; written_long = e.sized.written_long; durable_long = h.auto.1.0 ∙ e.sized.durable_long };
+      made = λ on. h.ensures.made f.new.sectors stores t (subst (λ (l : List Store). Made a.all.to a.budget f.result l t u) (sym on) e.made);
+      sized = record { sectors_long = e.sized.sectors_long; written_long = e.sized.written_long; durable_long = h.auto.durable ∙ e.sized.durable_long };
       device = e.device;
       logs_behind = e.logs_behind;
     }
 
-pub parity-step-spec : {M : Type 1} → statement M
-parity-step-spec =
+pub parity_step_spec : {M : Type 1} → statement M
+parity_step_spec =
     tie.close
     (tie.spec (λ c κs. search rules) (λ c κs. search rules) (λ c. search rules) (λ c. search rules) empty-parities-requires flush-after-requires (λ c. search rules) (λ c. search rules) (λ c. search rules) returns)

@@ -14,14 +14,14 @@ use Rattle.mounting.specs.MountLastEntries.{StillEntering, on_parity, zone_entry
 use Rattle.mounting.proofs.entries.log_drive.Statement.{statement}
 use Rattle.mounting.proofs.entries.log_drive.Tie as tie
 
-abbrev invariant-loop : tie.invariant-loop
+abbrev invariant-loop : tie.invariant-loop-z
 invariant-loop sectors₀ written₀ pointers starts basis to drive budget n rest₀ z₀ sectors written rest z =
     AppendsBelow to (is_set basis.here) budget (zone_entry_stores basis.geometry basis.look (shown_at basis.geometry basis.here basis.look sectors₀ pointers) (parity_entries to (read_device to sectors₀ starts) drive) drive) basis.geometry.zones z rest sectors₀ written₀ sectors written
 
-abbrev decreases-loop : tie.decreases-loop
+abbrev decreases-loop : tie.decreases-loop-z
 decreases-loop sectors₀ written₀ pointers starts basis to drive budget n rest₀ z₀ sectors written rest z = n - z
 
-abbrev to_start : tie.At-loop invariant-loop decreases-loop → tie.Start invariant-loop decreases-loop
+abbrev to_start : tie.At-loop-z invariant-loop decreases-loop → tie.Start invariant-loop decreases-loop
 to_start c = c.before.before.before.before.before
 
 -- the stores of each zone
@@ -29,32 +29,32 @@ abbrev row : tie.Start invariant-loop decreases-loop → ℕ → List Store
 row s = let a = s.args in zone_entry_stores a.basis.geometry a.basis.look (shown_at a.basis.geometry a.basis.here a.basis.look a.sectors.now a.pointers.now) (parity_entries a.to (read_device a.to a.sectors.now a.starts.now) a.drive) a.drive
 
 -- what those so far have left alone
-kept : (c : tie.At-loop invariant-loop decreases-loop) → let a = (to_start c).args in StillEntering a.basis.geometry a.to a.basis.here a.basis.look a.pointers.now a.starts.now a.sectors.now c.loop.sectors c.loop.written
+kept : (c : tie.At-loop-z invariant-loop decreases-loop) → let a = (to_start c).args in StillEntering a.basis.geometry a.to a.basis.here a.basis.look a.pointers.now a.starts.now a.sectors.now c.loop-z.sectors c.loop-z.written
 kept c =
     let s = to_start c in
     let a = s.args in
-    let l = c.loop in
-    entered a.basis.geometry a.to a.basis.here a.basis.look a.budget l.rest (on_present (is_set a.basis.here) (each_below (row s) l.z)) a.pointers.now a.starts.now a.sectors.now a.written.now l.sectors l.written s.pre.1.1 (on_present_in a.basis.geometry on_parity (is_set a.basis.here) (each_below (row s) l.z) (drive_entries_in a.basis.geometry a.basis.here a.basis.look a.pointers.now a.sectors.now s.pre.0 s.pre.1.1.appends.known_below (parity_entries a.to (read_device a.to a.sectors.now a.starts.now) a.drive) a.drive l.z s.pre.1.0 l.invariant.within)) l.invariant.made
+    let l = c.loop-z in
+    entered a.basis.geometry a.to a.basis.here a.basis.look a.budget l.rest (on_present (is_set a.basis.here) (each_below (row s) l.z)) a.pointers.now a.starts.now a.sectors.now a.written.now l.sectors l.written s.requires.1.1 (on_present_in a.basis.geometry on_parity (is_set a.basis.here) (each_below (row s) l.z) (drive_entries_in a.basis.geometry a.basis.here a.basis.look a.pointers.now a.sectors.now s.requires.0 s.requires.1.1.appends.known_below (parity_entries a.to (read_device a.to a.sectors.now a.starts.now) a.drive) a.drive l.z s.requires.1.0 l.invariant.within)) l.invariant.made
 
-log-entry-requires : tie.Need-log-entry-requires invariant-loop decreases-loop
+log-entry-requires : tie.Need-log_entry-rest-requires invariant-loop decreases-loop
 log-entry-requires c κs =
     let l = c.before.before.before in
     let s = to_start l in
-    (s.pre.0, (s.pre.1.0, c.before.before.loop-test.true, (kept l).0))
+    (s.requires.0, (s.requires.1.0, c.loop-z-test.true, (kept l).0))
 
-loop-again : tie.Need-loop-preserved invariant-loop decreases-loop
+loop-again : tie.Need-loop-z-preserved invariant-loop decreases-loop
 loop-again c =
-    let f = c.before.before.before.before.log-entry in
+    let f = c.log_entry-rest in
     let t = c.before.before.before.before.before.before.before in
     let s = to_start t.before in
     let a = s.args in
-    let l = t.before.loop in
-    appends_turn a.to (is_set a.basis.here) a.budget l.rest f.result (row s) a.basis.geometry.zones l.z a.sectors.now a.written.now l.sectors l.written f.new.0 f.new.1.0 l.invariant t.loop-test.true f.auto.0 f.auto.1.0 (rw ((kept t.before).1, (kept t.before).2) at f.ensures)
+    let l = t.loop-z in
+    appends_turn a.to (is_set a.basis.here) a.budget l.rest f.result (row s) a.basis.geometry.zones l.z a.sectors.now a.written.now l.sectors l.written f.new.sectors f.new.written l.invariant t.loop-z-test.true f.auto.sectors f.auto.written (rw ((kept t.before).1, (kept t.before).2) at f.ensures)
 
-pub log-drive-spec : {M : Type 1} → statement M
-log-drive-spec =
+pub log_drive_spec : {M : Type 1} → statement M
+log_drive_spec =
     tie.close
     (tie.spec invariant-loop decreases-loop (λ c. appends_begin _ _ _ _ _ _ _) log-entry-requires
-    (λ c. let t = c.before.before.before.before.before.before.before in omega (arith, t.loop-test.true, (to_start t.before).pre.0.zones_most))
-    (λ c. omega (arith, c.before.before.before.before.before.before.before.loop-test.true)) loop-again
-    (λ c. c.before.loop.invariant.sectors_long) (λ c. c.before.loop.invariant.written_long) (λ c. appends_end _ _ _ _ _ _ _ _ _ _ _ c.before.loop.invariant (omega arith)))
+    (λ c. let t = c.before.before.before.before.before.before.before in omega (arith, t.loop-z-test.true, (to_start t.before).requires.0.zones_most))
+    (λ c. omega (arith, c.loop-z-test.true)) loop-again
+    (λ c. c.loop-z.invariant.sectors_long) (λ c. c.loop-z.invariant.written_long) (λ c. appends_end _ _ _ _ _ _ _ _ _ _ _ c.loop-z.invariant (omega arith)))

@@ -23,81 +23,81 @@ use Rattle.mounting.proofs.fill.fill_sectors.Tie as tie
 abbrev sectorOn : Extent → List ℕ → List ℕ → ℕ → ℕ → List ℕ
 sectorOn known xs ps drive = content_at known.geometry.drives known.geometry.unit known.zone (values_in known xs ps) drive
 
-abbrev invariant-loop : tie.invariant-loop
+abbrev invariant-loop : tie.invariant-loop-x
 invariant-loop sectors₀ written₀ pointers known target from to budget rest₀ x₀ sectors written rest x =
     (from ≤ x) × (x ≤ to) × (length sectors ≡ length sectors₀) × (length written ≡ length written₀)
     × MadeAppends known.to budget rest (rows_if target.present target.drive target.zone (sectorOn known sectors₀ pointers target.drive) from x) sectors₀ written₀ sectors written
 
-abbrev decreases-loop : tie.decreases-loop
+abbrev decreases-loop : tie.decreases-loop-x
 decreases-loop sectors₀ written₀ pointers known target from to budget rest₀ x₀ sectors written rest x = to - x
 
-loop-holds : tie.Need-loop-init invariant-loop decreases-loop
+loop-holds : tie.Need-loop-x-init invariant-loop decreases-loop
 loop-holds c =
     let s = c.before.before.before in
     let a = s.args in
     let t = a.target in
     (omega arith, s.requires.1.1, refl, refl, rw (rows_none t.present t.drive t.zone (sectorOn a.known a.sectors.now a.pointers.now t.drive) a.from) (appends_nil a.known.to a.budget a.sectors.now a.written.now))
 
-abbrev to_start : tie.At-loop invariant-loop decreases-loop → tie.Start invariant-loop decreases-loop
+abbrev to_start : tie.At-loop-x invariant-loop decreases-loop → tie.Start invariant-loop decreases-loop
 to_start c = c.before.before.before.before
 
 -- what the sectors so far have left alone
-kept : (c : tie.At-loop invariant-loop decreases-loop) → let a = (to_start c).args in
-    ZoneReady a.known a.target c.loop.sectors c.loop.written a.pointers.now × (read_device a.known.geometry c.loop.sectors a.pointers.now ≡ read_device a.known.geometry a.sectors.now a.pointers.now)
+kept : (c : tie.At-loop-x invariant-loop decreases-loop) → let a = (to_start c).args in
+    ZoneReady a.known a.target c.loop-x.sectors c.loop-x.written a.pointers.now × (read_device a.known.geometry c.loop-x.sectors a.pointers.now ≡ read_device a.known.geometry a.sectors.now a.pointers.now)
 kept c =
     let s = to_start c in
     let a = s.args in
     let t = a.target in
-    let l = c.loop in
+    let l = c.loop-x in
     let k = a.known in
-    let ready = s.pre.1.0 in
+    let ready = s.requires.1.0 in
     let F = sectorOn a.known a.sectors.now a.pointers.now t.drive in
     zone_kept a.known t a.sectors.now a.written.now a.pointers.now ready a.budget l.rest (rows_if t.present t.drive t.zone F a.from l.x) l.sectors l.written
     (rows_in k.geometry (λ y. eqb y t.zone) t.present t.drive t.zone F a.from l.x (ready.rows 0).drive_in (ready.rows 0).zone_in_lem (eqb_same t.zone)
-    (λ p i h. content_long k.geometry k.here a.sectors.now a.pointers.now k.zone k.generation k.limit k.end t.drive i s.pre.0 ready.known_below (ready.rows 0).drive_in (omega (arith, h, l.invariant.1, s.pre.1.2))))
+    (λ p i h. content_long k.geometry k.here a.sectors.now a.pointers.now k.zone k.generation k.limit k.end t.drive i s.requires.0 ready.known_below (ready.rows 0).drive_in (omega (arith, h, l.invariant.1, s.requires.1.2))))
     l.invariant.4
 
-fill-sector-requires : tie.Need-fill-sector-requires invariant-loop decreases-loop
+fill-sector-requires : tie.Need-fill_sector-rest-requires invariant-loop decreases-loop
 fill-sector-requires c κs =
     let l = c.before.before.before in
     let s = to_start l in
-    let h = c.before.before.loop-test.true in
-    (s.pre.0, ((kept l).0, omega (arith, h, s.pre.1.2)))
+    let h = c.loop-x-test.true in
+    (s.requires.0, ((kept l).0, omega (arith, h, s.requires.1.2)))
 
-add-x : tie.Need-overflow-add-x invariant-loop decreases-loop
+add-x : tie.Need-overflow_add-x invariant-loop decreases-loop
 add-x c =
     let t = c.before.before.before.before.before.before.before in
     let s = to_start t.before in
     let k = s.args.known in
-    omega (arith, t.loop-test.true, s.pre.1.2, needed_fits k.geometry s.pre.0 k.zone k.end s.args.target.drive s.pre.1.0.known_below.end_most, s.pre.0.zone_most)
+    omega (arith, t.loop-x-test.true, s.requires.1.2, needed_fits k.geometry s.requires.0 k.zone k.end s.args.target.drive s.requires.1.0.known_below.end_most, s.requires.0.zone_most)
 
-loop-less : tie.Need-loop-smaller invariant-loop decreases-loop
-loop-less c = omega (arith, c.before.before.before.before.before.before.before.loop-test.true)
+loop-less : tie.Need-loop-x-smaller invariant-loop decreases-loop
+loop-less c = omega (arith, c.loop-x-test.true)
 
-loop-again : tie.Need-loop-preserved invariant-loop decreases-loop
+loop-again : tie.Need-loop-x-preserved invariant-loop decreases-loop
 loop-again c =
-    let f = c.before.before.before.before.fill-sector in
+    let f = c.fill_sector-rest in
     let at-loop-test = c.before.before.before.before.before.before.before in
     let at-loop = at-loop-test.before in
     let a = (to_start at-loop).args in
     let t = a.target in
-    let l = at-loop.loop in
+    let l = at-loop.loop-x in
     let F = sectorOn a.known a.sectors.now a.pointers.now t.drive in (
       omega (arith, l.invariant.0),
-      omega (arith, at-loop-test.loop-test.true),
-      f.auto.0 ∙ l.invariant.2,
-      f.auto.1.0 ∙ l.invariant.3,
+      omega (arith, at-loop-test.loop-x-test.true),
+      f.auto.sectors ∙ l.invariant.2,
+      f.auto.written ∙ l.invariant.3,
       rw (add-one, rows_more t.present t.drive t.zone F a.from l.x l.invariant.0)
-          (appends_append a.known.to a.budget l.rest f.result (rows_if t.present t.drive t.zone F a.from l.x) (store_if t.present (append t.drive t.zone (F l.x))) a.sectors.now a.written.now l.sectors l.written f.new.0 f.new.1.0 l.invariant.4 (rw (kept at-loop).1 at f.ensures)),
+          (appends_append a.known.to a.budget l.rest f.result (rows_if t.present t.drive t.zone F a.from l.x) (store_if t.present (append t.drive t.zone (F l.x))) a.sectors.now a.written.now l.sectors l.written f.new.sectors f.new.written l.invariant.4 (rw (kept at-loop).1 at f.ensures)),
     )
 
 returns : tie.Need-returns invariant-loop decreases-loop
 returns c =
-    let l = c.before.loop in
+    let l = c.loop-x in
     let e : l.x ≡ (to_start c.before).args.to = omega arith in
     rw e at l.invariant.4
 
-pub fill-sectors-spec : {M : Type 1} → statement M
-fill-sectors-spec =
+pub fill_sectors_spec : {M : Type 1} → statement M
+fill_sectors_spec =
     tie.close
-    (tie.spec invariant-loop decreases-loop loop-holds fill-sector-requires add-x loop-less loop-again (λ c. c.before.loop.invariant.2) (λ c. c.before.loop.invariant.3) returns)
+    (tie.spec invariant-loop decreases-loop loop-holds fill-sector-requires add-x loop-less loop-again (λ c. c.loop-x.invariant.2) (λ c. c.loop-x.invariant.3) returns)

@@ -9,7 +9,7 @@ unfolding label_due
 returns c =
     let s = c.before.before.before.before in
     let a = s.args in
-    rw (c.last-lost.ensures.0, c.before.sectors-then.ensures.0, seen_heads a.basis.geometry a.sectors.now a.pointers.now a.drive s.requires.1.0) refl
+    rw (c.last_lost-last.ensures.0, c.sectors_then-n.ensures.0, seen_heads a.basis.geometry a.sectors.now a.pointers.now a.drive s.requires.1.0) refl
 
-pub label-due-spec : {M : Type 1} → statement M
-label-due-spec = tie.close (tie.spec (λ c κs. search rules) (λ c κs. search rules) returns)
+pub label_due_spec : {M : Type 1} → statement M
+label_due_spec = tie.close (tie.spec (λ c κs. search rules) (λ c κs. search rules) returns)

@@ -6,9 +6,9 @@ use Rattle.mounting.proofs.log_headers.reset_due.Tie as tie
 
 returns : tie.Need-returns
 unfolding reset_due
-returns c = rw (c.before.first-drive.ensures.0, c.parity-drive.ensures.0) refl
+returns c = rw (c.first_drive-first.ensures.0, c.parity_drive-parity.ensures.0) refl
 
-pub reset-due-spec : {M : Type 1} → statement M
-reset-due-spec =
+pub reset_due_spec : {M : Type 1} → statement M
+reset_due_spec =
     tie.close
     (tie.spec (λ c. search rules) (λ c. search rules) (λ c κs. search rules) (λ c κs. search rules) returns)

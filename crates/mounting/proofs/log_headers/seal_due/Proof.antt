@@ -15,10 +15,10 @@ unfolding seal_due
 returns c =
     let s = c.before.before.before.before.before.before.before in
     let a = s.args in
-    let there : c.has-seal-at.result ≡ any_of (is_seal_at a.z (zone_look a.basis.look a.z).generation (zone_look a.basis.look a.z).pointer) (general_heads a.basis.geometry (read_device a.basis.geometry a.sectors.now a.pointers.now) a.drive) = c.has-seal-at.ensures ∙ rw (c.before.sectors-then.ensures.0, seen_heads a.basis.geometry a.sectors.now a.pointers.now a.drive s.requires.1.0) refl in
-    ap₂ (λ (sealed found : Bool). sealed && not found) c.before.before.is-sealed.ensures there
+    let there : c.has_seal_at-there.result ≡ any_of (is_seal_at a.z (zone_look a.basis.look a.z).generation (zone_look a.basis.look a.z).pointer) (general_heads a.basis.geometry (read_device a.basis.geometry a.sectors.now a.pointers.now) a.drive) = c.has_seal_at-there.ensures ∙ rw (c.sectors_then-n.ensures.0, seen_heads a.basis.geometry a.sectors.now a.pointers.now a.drive s.requires.1.0) refl in
+    ap₂ (λ (sealed found : Bool). sealed && not found) c.is_sealed-sealed.ensures there
 
-pub seal-due-spec : {M : Type 1} → statement M
-seal-due-spec =
+pub seal_due_spec : {M : Type 1} → statement M
+seal_due_spec =
     tie.close
     (tie.spec (λ c. search rules) (λ c. search rules) (λ c κs. search rules) (λ c κs. search rules) (λ c κs. search rules) returns)

@@ -9,31 +9,31 @@ use borrow.Author.Rules.{rules}
 use Rattle.mounting.proofs.steps.fill_step.Statement.{statement}
 use Rattle.mounting.proofs.steps.fill_step.Tie as tie
 
-fill-drives-requires : tie.Need-fill-drives-requires
+fill-drives-requires : tie.Need-fill_drives-rest-requires
 fill-drives-requires c κs =
     let s = c.before.before.before.before.before.before.before in
     let a = s.args in
     (s.requires.0, (filling a.basis.geometry a.basis.here a.basis.look a.pointers.now (tables_of a.sectors.now a.written.now a.durable.now) s.requires.1))
 
-flush-after-requires : tie.Need-flush-after-requires
+flush-after-requires : tie.Need-flush_after-requires
 flush-after-requires c κs =
     let at-fill-drives = c.before.before.before.before.before.before in
     let s = c.before.before.before.before.before.before.before.before.before.before.before.before.before.before in
-    (s.requires.0, (at-fill-drives.fill-drives.auto.1.0 ∙ s.requires.1.logging.written_long, s.requires.1.durable_long))
+    (s.requires.0, (at-fill-drives.fill_drives-rest.auto.written ∙ s.requires.1.logging.written_long, s.requires.1.durable_long))
 
 returns : tie.Need-returns
 returns c =
     let at-fill-drives = c.before.before.before.before.before.before.before.before.before in
     let s = c.before.before.before.before.before.before.before.before.before.before.before.before.before.before.before.before.before in
     let a = s.args in
-    let f = at-fill-drives.fill-drives in
+    let f = at-fill-drives.fill_drives-rest in
     let t = tables_of a.sectors.now a.written.now a.durable.now in
     let ps = a.pointers.now in
     let w = read_device a.basis.geometry a.sectors.now ps in
     step_made a.basis.geometry a.basis.here a.basis.look ps a.budget _ (fills_by a.basis.geometry a.basis.here a.basis.look) t _ s.requires.1 (fill_in a.basis.geometry a.basis.here a.basis.look ps a.sectors.now a.written.now s.requires.0 (filling a.basis.geometry a.basis.here a.basis.look ps t s.requires.1))
-    (c.before.before.flush-after.ensures.made f.new.0 (fills_by a.basis.geometry a.basis.here a.basis.look w) t (rw (fill_steps a.basis.geometry (shown_in a.basis.geometry a.basis.here a.basis.look w) w) (f.ensures.made a.durable.now)))
+    (c.flush_after.ensures.made f.new.sectors (fills_by a.basis.geometry a.basis.here a.basis.look w) t (rw (fill_steps a.basis.geometry (shown_in a.basis.geometry a.basis.here a.basis.look w) w) (f.ensures.made a.durable.now)))
 
-pub fill-step-spec : {M : Type 1} → statement M
-fill-step-spec =
+pub fill_step_spec : {M : Type 1} → statement M
+fill_step_spec =
     tie.close
     (tie.spec fill-drives-requires flush-after-requires (λ c. search rules) (λ c. search rules) (λ c. search rules) returns)

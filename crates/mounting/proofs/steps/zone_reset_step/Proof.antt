@@ -10,16 +10,16 @@ returns c =
     let at-reset-zones = c.before.before.before.before.before.before.before.before.before in
     let s = at-reset-zones.before.before.before.before.before.before in
     let a = s.args in
-    let f = at-reset-zones.reset-zones in
+    let f = at-reset-zones.reset_zones-rest in
     record {
       step = λ ps xs r.
           let w = read_device a.basis.geometry xs ps in
           let t = tables_of xs a.written.now a.durable.now in
           step_made a.basis.geometry a.basis.here a.basis.look ps a.budget _ (zone_resets_by a.basis.geometry a.basis.look) t _ r (resets_in a.basis.geometry a.basis.look w s.requires.0)
-          (c.before.before.flush-after.ensures.made xs (zone_resets_by a.basis.geometry a.basis.look w) t (f.ensures.made xs));
+          (c.flush_after.ensures.made xs (zone_resets_by a.basis.geometry a.basis.look w) t (f.ensures.made xs));
     }
 
-pub zone-reset-step-spec : {M : Type 1} → statement M
-zone-reset-step-spec =
+pub zone_reset_step_spec : {M : Type 1} → statement M
+zone_reset_step_spec =
     tie.close
     (tie.spec (λ c κs. search rules) (λ c κs. search rules) (λ c. search rules) (λ c. search rules) returns)

@@ -10,10 +10,10 @@ use borrow.Author.Rules.{rules}
 use Rattle.mounting.proofs.torn.append_zeros.Statement.{statement}
 use Rattle.mounting.proofs.torn.append_zeros.Tie as tie
 
-slice-aggregate-append-counted : tie.Need-slice-aggregate-append-counted
+slice-aggregate-append-counted : tie.Need-slice_bounds-append_counted-end
 slice-aggregate-append-counted c = let s = c.before.before.before.before.before in sym (length-take-le s.args.g.sector _ s.requires.0.sector_most)
 
-append-counted-requires : tie.Need-append-counted-requires
+append-counted-requires : tie.Need-append_counted-requires
 append-counted-requires c κs =
     let s = c.before.before.before.before.before in
     (s.requires.0, ((s.requires.1.0, omega arith), (s.requires.1.1, s.requires.1.2, length-take-le s.args.g.sector _ s.requires.0.sector_most)))
@@ -22,10 +22,10 @@ returns : tie.Need-returns
 returns c =
     let s = c.before.before.before.before.before.before.before.before.before.before in
     let a = s.args in
-    let f = c.before.before.before.before.append-counted in
-    appended_as a.g a.budget f.result true a.drive parity_zone (take a.g.sector (replicate 4096 0)) (replicate a.g.sector 0) a.sectors.now a.written.now f.new.0 f.new.1.0 (take_zeros a.g.sector 4096 s.requires.0.sector_most) f.ensures
+    let f = c.append_counted in
+    appended_as a.g a.budget f.result true a.drive parity_zone (take a.g.sector (replicate 4096 0)) (replicate a.g.sector 0) a.sectors.now a.written.now f.new.sectors f.new.written (take_zeros a.g.sector 4096 s.requires.0.sector_most) f.ensures
 
-pub append-zeros-spec : {M : Type 1} → statement M
-append-zeros-spec =
+pub append_zeros_spec : {M : Type 1} → statement M
+append_zeros_spec =
     tie.close
     (tie.spec (λ c. search rules) slice-aggregate-append-counted append-counted-requires (λ c. search rules) (λ c. search rules) returns)

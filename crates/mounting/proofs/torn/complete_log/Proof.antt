@@ -18,68 +18,68 @@ use Rattle.volume.specs.looking.Knowing.{read_device}
 abbrev shown : tie.Start → Shown
 shown s = let a = s.args in shown_at a.basis.geometry a.basis.here a.basis.look a.sectors.now a.pointers.now
 
-returns : tie.Need-returns
+returns : tie.Need-returns-then-not-present
 returns c =
     let s = c.before.before.before.before.before in
     let a = s.args in
-    rw (torn_absent a.basis.geometry (shown s) (read_device a.basis.geometry a.sectors.now a.pointers.now) (is_set a.basis.here) a.drive (not-true (is_set a.basis.here a.drive) c.if1.true)) (appends_nil a.basis.geometry a.budget a.sectors.now a.written.now)
+    rw (torn_absent a.basis.geometry (shown s) (read_device a.basis.geometry a.sectors.now a.pointers.now) (is_set a.basis.here) a.drive (not-true (is_set a.basis.here a.drive) c.if-not-present.true-raw)) (appends_nil a.basis.geometry a.budget a.sectors.now a.written.now)
 
-returns-2 : tie.Need-returns-2
+returns-2 : tie.Need-returns-in_default
 returns-2 c =
-    let s = c.before.before.before.before.before.before.before.before.before in
+    let s = c.before.before.before.before.before.before.before.before.before.before in
     let a = s.args in
-    let n = c.before.before.before.sectors-then in
-    rw (torn_idle a.basis.geometry (shown s) a.sectors.now a.pointers.now (is_set a.basis.here) a.drive n.result s.requires.1.0 n.ensures.0 (λ e. let t = ap (tag_of WalkEnd.the_type) (sym e ∙ sym c.before.walk-log.ensures.0) in ⊎_elim (λ k. omega arith) (λ k. omega arith) c.match.keys2))
+    let n = c.sectors_then-n in
+    rw (torn_idle a.basis.geometry (shown s) a.sectors.now a.pointers.now (is_set a.basis.here) a.drive n.result s.requires.1.0 n.ensures.0 (λ e. c.in_default.not-Torn _ (c.walk_log-w.ensures.0 ∙ e)))
     (appends_nil a.basis.geometry a.budget a.sectors.now a.written.now)
 
 -- where the walk has been left at a torn entry
-abbrev start : tie.After-w → tie.Start
+abbrev start : tie.In-Torn → tie.Start
 start k = k.before.before.before.before.before.before.before.before.before.before
 
-inside : (k : tie.After-w) → (k.w.given.0.0 < k.before.before.before.before.sectors-then.result) × (k.before.before.before.before.sectors-then.result ≤ 65536)
+inside : (k : tie.In-Torn) → (k.in-Torn.p < k.sectors_then-n.result) × (k.sectors_then-n.result ≤ 65536)
 inside k =
     let s = start k in
     let a = s.args in
-    let n = k.before.before.before.before.sectors-then in
-    let torn = sym k.before.before.walk-log.ensures.0 ∙ k.w.given.1 in
-    (torn_inside a.basis.geometry (shown s) a.sectors.now a.pointers.now (is_set a.basis.here) a.drive n.result s.pre.1.0 n.ensures.0 s.pre.0 k.w.given.0.0 torn, omega (arith, n.ensures.1, s.pre.0.zone_most))
+    let n = k.sectors_then-n in
+    let torn = sym k.walk_log-w.ensures.0 ∙ k.in-Torn.is in
+    (torn_inside a.basis.geometry (shown s) a.sectors.now a.pointers.now (is_set a.basis.here) a.drive n.result s.requires.1.0 n.ensures.0 s.requires.0 k.in-Torn.p torn, omega (arith, n.ensures.1, s.requires.0.zone_most))
 
-judge-at-requires : tie.Need-judge-at-requires
+judge-at-requires : tie.Need-judge_at-f-requires
 judge-at-requires c κs =
-    let k = c.before.before in
+    let k = c.before in
     let s = start k in
-    let n = k.before.before.before.before.sectors-then in
-    (s.pre.0, (record { drive_in = s.pre.1.0; zone_in_lem = omega arith; short = n.ensures.1; long = s.pre.1.1.logging.sectors_long }, (inside k).0))
+    let n = k.sectors_then-n in
+    (s.requires.0, (record { drive_in = s.requires.1.0; zone_in_lem = omega arith; short = n.ensures.1; long = s.requires.1.1.logging.sectors_long }, (inside k).0))
 
-add-rows : tie.Need-overflow-add-rows
-add-rows c = let i = inside c.before.before.before in omega (arith, i.0, i.1)
+add-rows : tie.Need-overflow_add-rows
+add-rows c = let i = inside c.before.before in omega (arith, i.0, i.1)
 
-sub-rows : tie.Need-overflow-sub-rows
-sub-rows c = omega (arith, (inside c.before.before.before).0)
+sub-rows : tie.Need-overflow_sub-rows
+sub-rows c = omega (arith, (inside c.before.before).0)
 
-complete-entry-requires : tie.Need-complete-entry-requires
+complete-entry-requires : tie.Need-complete_entry-requires
 complete-entry-requires c κs =
-    let k = c.before.before.before.before.before in
+    let k = c.before.before.before.before in
     let s = start k in
     let a = s.args in
-    let n = k.before.before.before.before.sectors-then in
-    let torn = sym k.before.before.walk-log.ensures.0 ∙ k.w.given.1 in
-    let j = c.before.before.judge-at in
-    (s.pre.0, (s.pre.1.0, s.pre.1.1, torn_found_fits a.basis.geometry (shown s) a.sectors.now a.pointers.now (is_set a.basis.here) a.drive n.result s.pre.1.0 n.ensures.0 s.pre.0 k.w.given.0.0 torn j.result j.ensures))
+    let n = k.sectors_then-n in
+    let torn = sym k.walk_log-w.ensures.0 ∙ k.in-Torn.is in
+    let j = c.judge_at-f in
+    (s.requires.0, (s.requires.1.0, s.requires.1.1, torn_found_fits a.basis.geometry (shown s) a.sectors.now a.pointers.now (is_set a.basis.here) a.drive n.result s.requires.1.0 n.ensures.0 s.requires.0 k.in-Torn.p torn j.result j.ensures))
 
-returns-3 : tie.Need-returns-3
+returns-3 : tie.Need-returns
 returns-3 c =
-    let k = c.before.before.before.before.before.before.before.before.before.before in
+    let k = c.before.before.before.before.before.before.before.before.before in
     let s = start k in
     let a = s.args in
-    let n = k.before.before.before.before.sectors-then in
-    let torn = sym k.before.before.walk-log.ensures.0 ∙ k.w.given.1 in
-    let j = c.before.before.before.before.before.before.before.judge-at in
-    let here = not-false (is_set a.basis.here a.drive) c.before.before.before.before.before.before.before.before.before.before.before.before.before.before.before.if1.false in
-    rw (torn_made a.basis.geometry (shown s) a.sectors.now a.pointers.now (is_set a.basis.here) a.drive n.result s.pre.1.0 n.ensures.0 s.pre.0 k.w.given.0.0 torn j.result j.ensures here) c.before.before.before.before.complete-entry.ensures
+    let n = k.sectors_then-n in
+    let torn = sym k.walk_log-w.ensures.0 ∙ k.in-Torn.is in
+    let j = c.judge_at-f in
+    let here = not-false (is_set a.basis.here a.drive) c.if-not-present.false-raw in
+    rw (torn_made a.basis.geometry (shown s) a.sectors.now a.pointers.now (is_set a.basis.here) a.drive n.result s.requires.1.0 n.ensures.0 s.requires.0 k.in-Torn.p torn j.result j.ensures here) c.complete_entry.ensures
 
-pub complete-log-spec : {M : Type 1} → statement M
-complete-log-spec =
+pub complete_log_spec : {M : Type 1} → statement M
+complete_log_spec =
     tie.close
     (tie.spec (λ c. search rules) returns (λ c κs. search rules) (λ c κs. search rules) (λ c. search rules) (λ c. search rules) returns-2
     judge-at-requires add-rows sub-rows complete-entry-requires (λ c. search rules) (λ c. search rules) returns-3)

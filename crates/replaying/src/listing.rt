@@ -86,10 +86,8 @@ pub fn report_filled(l: Listed) -> u64 {
 pub fn list_sum(l: Listed, c: Command) -> u64 {
     let room = c.first as usize;
     let mut s = super::checksum::start_sums();
-    let mut z = 0;
-    while z < room {
+    for z in 0..room {
         s = add_listed(s, l, z);
-        z += 1;
     }
     super::checksum::sum_number(s)
 }

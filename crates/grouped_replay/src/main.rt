@@ -72,11 +72,8 @@ fn show(rt: &impl Print, letter: u8, r: Reply) -> io::Result<()> {
 
 // Fills the answer with the byte that says that nothing was read.
 fn prefill(answer: &mut [u8]) {
-    let n = answer.len();
-    let mut i = 0;
-    while i < n {
-        answer[i] = 238;
-        i += 1;
+    for byte in answer.iter_mut() {
+        *byte = 238;
     }
 }
 

@@ -189,14 +189,10 @@ fn show_rest(
         return field(rt, replaying::showing::read_sum(buffer, h, c));
     }
     if letter == b'p' {
-        field(
-            rt,
-            replaying::showing::peek_place(places, written, durable, h, c),
-        )?;
-        return field(
-            rt,
-            replaying::showing::peek_sum(space, written, durable, h, c),
-        );
+        let place = replaying::showing::peek_place(places, written, durable, h, c);
+        let sum = replaying::showing::peek_sum(space, written, durable, h, c);
+        field(rt, place)?;
+        return field(rt, sum);
     }
     if letter == b'o' {
         let l = replaying::listing::listed(h, c);

@@ -21,7 +21,7 @@ fn untouched() -> ZoneDescriptor {
     }
 }
 
-// The report into the first descriptors of a list. It alone makes a reference to them, which is proved by hand.
+// The report into the first descriptors of a list; those past them stay.
 fn report_into(g: Geometry, state: State, mut list: [ZoneDescriptor; 16], room: usize) -> Listed
     requires { room ≤ 16 }
     ensures { (result.reported.answer ≡ (report_on g (view_state state) (take room list)).answer)

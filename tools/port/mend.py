@@ -4,12 +4,13 @@
 usage: python3 tools/port/mend.py LOG     in a crate's folder; LOG is what `rt check` said. Says how many places it changed."""
 import re, sys, collections
 
-edits = collections.defaultdict(dict)
+edits, raw = collections.defaultdict(dict), {}
 for line in open(sys.argv[1], encoding="utf-8"):
     line = re.sub(r"^so far: ", "", line)
     m = re.match(r"(\S+?\.antt):(\d+):(\d+): error: `([^`]+)`: (.*)", line)
     if m:
         edits[m.group(1)][int(m.group(2)), int(m.group(3))] = m.group(5)
+        raw[m.group(1), int(m.group(2)), int(m.group(3))] = line
 count = 0
 for path, places in edits.items():
     if "/proofs/" not in path:
@@ -49,6 +50,15 @@ for path, places in edits.items():
             k = line.find(t.group(1), max(0, col - 1))
             if k >= 0:
                 new = line[:k] + t.group(2) + line[k + len(t.group(1)) :]
+        # a step that the goal's own record has: it is taken from there
+        if f and not new and re.search(r"[-_]", f.group(1)):
+            k = line.find("." + f.group(1), max(0, col - 2 - len(f.group(1))))
+            v = re.search(r"(?<![\w'.-])([\w'-]+)((?:\.before)*)$", line[:k]) if k >= 0 else None
+            decl = re.match(r".*error: `([^`]+)`", raw.get((path, at, col), ""))
+            head = [re.match(re.escape(decl.group(1)) + r" ([\w'-]+)", l) for l in text[:at]] if decl else []
+            head = [h for h in head if h]
+            if v and head and v.group(1) != head[-1].group(1):
+                new = line[: v.start()] + head[-1].group(1) + line[k:]
         if new and new != line:
             text[at - 1] = new
             count += 1

@@ -7,6 +7,7 @@ ghost use Rattle.std.specs.Prelude.{◌≡◌, ◌+◌, ◌≤◌, length};
 
 use grouped::Segment;
 use replaying::Command;
+use std::io;
 
 pub mod memory;
 
@@ -50,32 +51,29 @@ fn block_space() -> [u8; 90112]
 }
 
 // Bytes of the answer line.
-fn text(s: &[u8]) {
-    io::write_all(1, s);
+fn text(rt: &impl Print, s: &[u8]) -> io::Result<()> {
+    rt.write_all(s)
 }
 
 // A space and a number.
-fn field(n: u64) {
-    text(b" ");
-    io::print_decimal(1, n);
+fn field(rt: &impl Print, n: u64) -> io::Result<()> {
+    text(rt, b" ")?;
+    rt.print(n)
 }
 
 // The answer line.
-fn show(letter: u8, r: Reply) {
+fn show(rt: &impl Print, letter: u8, r: Reply) -> io::Result<()> {
     let first = [letter];
-    text(&first);
-    field(r.code as u64);
-    field(r.sum);
-    text(b"\n");
+    text(rt, &first)?;
+    field(rt, r.code as u64)?;
+    field(rt, r.sum)?;
+    text(rt, b"\n")
 }
 
 // Fills the answer with the byte that says that nothing was read.
 fn prefill(answer: &mut [u8]) {
-    let n = answer.len();
-    let mut i = 0;
-    while i < n {
-        answer[i] = 238;
-        i += 1;
+    for byte in answer.iter_mut() {
+        *byte = 238;
     }
 }
 
@@ -283,16 +281,17 @@ fn perform(
 
 // One command: carried out and answered.
 fn step(
+    rt: &impl Print,
     blocks: &mut [u8],
     metadata: &mut [u8],
     work: &mut [u8],
     answer: &mut [u8],
     h: Host,
     c: Command,
-) -> Host {
+) -> io::Result<Host> {
     let r = perform(blocks, metadata, work, answer, h, c);
-    show(c.letter, r);
-    next_host(h, c)
+    show(rt, c.letter, r)?;
+    Ok(next_host(h, c))
 }
 
 // A host before its first command.
@@ -312,35 +311,39 @@ fn first_host() -> Host {
 
 // The script, line after line.
 fn replay(
+    rt: &impl Print,
     script: &[u8],
     blocks: &mut [u8],
     metadata: &mut [u8],
     work: &mut [u8],
     answer: &mut [u8],
-) {
+) -> io::Result<()> {
     let n = script.len();
     let mut h = first_host();
     let mut at = 0;
     while at < n {
         let c = replaying::parsing::command_at(script, at);
-        h = step(blocks, metadata, work, answer, h, c);
+        h = step(rt, blocks, metadata, work, answer, h, c)?;
         at = c.next;
     }
+    Ok(())
 }
 
 // All of standard input, replayed on the memory of the largest segment that is left in it.
-fn main() {
+fn main(rt: HostRuntime) -> io::Result<()> {
     let mut script = script_space();
-    let n = io::read_full(0, &mut script);
+    let mut input = rt.reader();
+    let n = replaying::input::read_full(&mut input, &mut script)?;
     let mut blocks = block_space();
     let mut metadata = [0u8; 16384];
     let mut work = [0u8; 8192];
     let mut answer = [0u8; 4096];
     replay(
+        &rt,
         &script[..n],
         &mut blocks,
         &mut metadata,
         &mut work,
         &mut answer,
-    );
+    )
 }

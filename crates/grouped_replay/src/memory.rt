@@ -187,14 +187,12 @@ pub fn find(metadata: &[u8], s: Segment, d: usize, group: usize, id: u32) -> usi
     let n = bounded(group, 65536);
     let at = product(n, g);
     let first = cell(s, d, at);
-    let mut i = 0;
-    while i < g {
+    for i in 0..g {
         let k = bounded(first + i, NONE);
         let here = has_id(metadata, k, id);
         if here {
             return k;
         }
-        i += 1;
     }
     NONE
 }
@@ -232,11 +230,9 @@ pub fn add_drives(
 ) -> bool {
     let n = s.drives;
     let mut whole = true;
-    let mut d = 0;
-    while d < n {
+    for d in 0..n {
         let has = add_drive(blocks, metadata, s, t, d, block, record);
         whole = whole & has;
-        d += 1;
     }
     whole
 }

@@ -16,6 +16,7 @@ ghost use Rattle.logs.specs.code.WalkCode.{InLog};
 ghost use Rattle.log_walks.specs.Worked.{Worked};
 
 use logs::WalkEnd;
+use std::io;
 use tables::Geometry;
 
 const ARRAY: u64 = 81985529216486895;
@@ -32,9 +33,8 @@ fn zeros() -> [u8; 40960]
     [0; 40960]
 }
 
-fn field(n: u64) {
-    io::write_all(1, b" ");
-    io::print_decimal(1, n);
+fn field(rt: &impl Print, n: u64) -> io::Result<()> {
+    print!(rt; " {n}")
 }
 
 // The lost drive that a label names: none for 0.
@@ -85,40 +85,47 @@ fn place(sectors: &mut [u8], g: Geometry, zone: usize, i: usize, kind: usize, x:
     tables::sectors::copy_in(sectors, at, &h);
 }
 
-fn show_place(p: usize, why: u64) {
-    field(p as u64);
-    field(why);
+fn show_place(rt: &impl Print, p: usize, why: u64) -> io::Result<()> {
+    field(rt, p as u64)?;
+    field(rt, why)
 }
 
-fn show_end(end: WalkEnd) {
+fn show_end(rt: &impl Print, end: WalkEnd) -> io::Result<()> {
     match end {
-        WalkEnd::AtPointer(p) => show_place(p, 0),
-        WalkEnd::NoEntry(p, _) => show_place(p, 1),
-        WalkEnd::Torn(p) => show_place(p, 2),
+        WalkEnd::AtPointer(p) => show_place(rt, p, 0),
+        WalkEnd::NoEntry(p, _) => show_place(rt, p, 1),
+        WalkEnd::Torn(p) => show_place(rt, p, 2),
     }
 }
 
 // The rows that a torn entry has.
-fn show_rows(end: WalkEnd, n: usize) {
+fn show_rows(rt: &impl Print, end: WalkEnd, n: usize) -> io::Result<()> {
     let WalkEnd::Torn(p) = end else {
-        return;
+        return Ok(());
     };
     let behind = tables::placement::saturating_sub(n, p);
-    field(tables::placement::saturating_sub(behind, 1) as u64);
+    field(rt, tables::placement::saturating_sub(behind, 1) as u64)
 }
 
-fn show_walk(sectors: &[u8], g: Geometry, zone: usize, par: bool, n: usize)
+fn show_walk(
+    rt: &impl Print,
+    sectors: &[u8],
+    g: Geometry,
+    zone: usize,
+    par: bool,
+    n: usize,
+) -> io::Result<()>
     requires valid { Valid g }
     requires in_log { InLog g 3 zone n sectors.now }
 {
-    show_end(logs::walking::walk_log(sectors, g, 3, zone, par, n));
+    show_end(rt, logs::walking::walk_log(sectors, g, 3, zone, par, n))
 }
 
-fn show_general(sectors: &[u8], g: Geometry, n: usize)
+fn show_general(rt: &impl Print, sectors: &[u8], g: Geometry, n: usize) -> io::Result<()>
     requires worked { Worked g }
     requires sectors_len { (length sectors.now ≡ 40960) × (n ≤ 32) }
 {
-    show_walk(sectors, g, 0, false, n);
+    show_walk(rt, sectors, g, 0, false, n)?;
     let log = logs::Log {
         drive: 3,
         zone: 0,
@@ -129,19 +136,19 @@ fn show_general(sectors: &[u8], g: Geometry, n: usize)
     let generation = logs::folds::last_generation(sectors, g, log, 0);
     let reset = logs::folds::has_reset(sectors, g, log, 0, 2);
     let least = logs::folds::least_seal(sectors, g, log, 1, 9, 96);
-    field(lost as u64);
-    field(place as u64);
-    field(generation);
-    field(reset as u64);
-    field(least as u64);
-    io::write_all(1, b"\n");
+    field(rt, lost as u64)?;
+    field(rt, place as u64)?;
+    field(rt, generation)?;
+    field(rt, reset as u64)?;
+    field(rt, least as u64)?;
+    println!(rt)
 }
 
-fn show_parity(sectors: &[u8], g: Geometry, n: usize)
+fn show_parity(rt: &impl Print, sectors: &[u8], g: Geometry, n: usize) -> io::Result<()>
     requires worked { Worked g }
     requires sectors_len { (length sectors.now ≡ 40960) × (n ≤ 32) }
 {
-    show_walk(sectors, g, 1, true, n);
+    show_walk(rt, sectors, g, 1, true, n)?;
     let log = logs::Log {
         drive: 3,
         zone: 1,
@@ -150,10 +157,10 @@ fn show_parity(sectors: &[u8], g: Geometry, n: usize)
     let any = logs::folds::last_partial(sectors, g, log, 0, 7, 0, 96);
     let past = logs::folds::last_partial(sectors, g, log, 0, 7, 2, 96);
     let end = logs::walking::walk_log(sectors, g, 3, 1, true, n);
-    field(any as u64);
-    field(past as u64);
-    show_rows(end, n);
-    io::write_all(1, b"\n");
+    field(rt, any as u64)?;
+    field(rt, past as u64)?;
+    show_rows(rt, end, n)?;
+    println!(rt)
 }
 
 // Changes one byte of a log's first sector.
@@ -165,79 +172,75 @@ fn change(sectors: &mut [u8], g: Geometry, zone: usize, b: usize)
     sectors[at + b] = sectors[at + b] ^ 1;
 }
 
-fn damaged(sectors: &mut [u8], g: Geometry, kind: usize, b: usize)
+fn damaged(
+    rt: &impl Print,
+    sectors: &mut [u8],
+    g: Geometry,
+    kind: usize,
+    b: usize,
+) -> io::Result<()>
     requires worked { Worked g }
     requires sectors_len { (length sectors.old ≡ 40960) × (b < 64) }
 {
-    io::write_all(1, b"damaged");
-    field(kind as u64);
-    field(b as u64);
+    print!(rt; "damaged {kind} {b}")?;
     if kind == 4 {
         place(sectors, g, 1, 0, 4, 2);
         place(sectors, g, 1, 3, 4, 2);
         change(sectors, g, 1, b);
-        show_parity(sectors, g, 6);
-        return;
+        return show_parity(rt, sectors, g, 6);
     }
     place(sectors, g, 0, 0, kind, 2);
     place(sectors, g, 0, 1, kind, 2);
     change(sectors, g, 0, b);
-    show_general(sectors, g, 2);
+    show_general(rt, sectors, g, 2)
 }
 
-fn torn(sectors: &mut [u8], g: Geometry, fill: usize, n: usize)
+fn torn(rt: &impl Print, sectors: &mut [u8], g: Geometry, fill: usize, n: usize) -> io::Result<()>
     requires worked { Worked g }
     requires sectors_len { (length sectors.old ≡ 40960) × (fill ≤ 5) × (n ≤ 32) }
 {
-    io::write_all(1, b"torn");
-    field(fill as u64);
-    field(n as u64);
+    print!(rt; "torn {fill} {n}")?;
     place(sectors, g, 1, 0, 4, fill);
-    show_parity(sectors, g, n);
+    show_parity(rt, sectors, g, n)
 }
 
-fn full(sectors: &mut [u8], g: Geometry, fill: usize, n: usize)
+fn full(rt: &impl Print, sectors: &mut [u8], g: Geometry, fill: usize, n: usize) -> io::Result<()>
     requires worked { Worked g }
     requires sectors_len { (length sectors.old ≡ 40960) × (fill ≤ 5) × (n ≤ 32) }
 {
-    io::write_all(1, b"full");
-    field(fill as u64);
-    field(n as u64);
+    print!(rt; "full {fill} {n}")?;
     place(sectors, g, 1, 30, 4, fill);
-    show_parity(sectors, g, n);
+    show_parity(rt, sectors, g, n)
 }
 
-fn mixed(sectors: &[u8], g: Geometry, n: usize)
+fn mixed(rt: &impl Print, sectors: &[u8], g: Geometry, n: usize) -> io::Result<()>
     requires worked { Worked g }
     requires sectors_len { (length sectors.now ≡ 40960) × (n ≤ 32) }
 {
-    io::write_all(1, b"mixed");
-    field(n as u64);
-    show_general(sectors, g, n);
+    print!(rt; "mixed {n}")?;
+    show_general(rt, sectors, g, n)
 }
 
 // Types 1 to 5, each with each of the first 56 bytes changed.
-fn all_damaged(sectors: &mut [u8], g: Geometry)
+fn all_damaged(rt: &impl Print, sectors: &mut [u8], g: Geometry) -> io::Result<()>
     requires worked { Worked g }
     requires sectors_len { length sectors.old ≡ 40960 }
 {
-    let mut i = 0;
-    while i < 280 {
-        damaged(sectors, g, i / 56 + 1, i % 56);
-        i += 1;
+    for i in 0..280 {
+        damaged(rt, sectors, g, i / 56 + 1, i % 56)?;
     }
+    Ok(())
 }
 
 // 1 to 5 sectors below the entry's end, 0 to 4 sectors written.
-fn all_torn(sectors: &mut [u8], g: Geometry)
+fn all_torn(rt: &impl Print, sectors: &mut [u8], g: Geometry) -> io::Result<()>
     requires worked { Worked g }
     requires sectors_len { length sectors.old ≡ 40960 }
 {
-    let mut i = 0;
-    while i < 25 {
-        torn(sectors, g, i / 5 + 1, i % 5);
-        i += 1;
+    for i in 0..25 {
+        torn(rt, sectors, g, i / 5 + 1, i % 5)?;
     }
+    Ok(())
 }
 
 // Fifteen entries of one row.
@@ -245,23 +248,21 @@ fn build_full(sectors: &mut [u8], g: Geometry)
     requires worked { Worked g }
     requires sectors_len { length sectors.old ≡ 40960 }
 {
-    let mut i = 0;
-    while i < 15 {
+    for i in 0..15 {
         place(sectors, g, 1, 2 * i, 4, 1);
-        i += 1;
     }
 }
 
 // Then one of one row or two where the zone ends.
-fn all_full(sectors: &mut [u8], g: Geometry)
+fn all_full(rt: &impl Print, sectors: &mut [u8], g: Geometry) -> io::Result<()>
     requires worked { Worked g }
     requires sectors_len { length sectors.old ≡ 40960 }
 {
-    full(sectors, g, 1, 30);
-    full(sectors, g, 1, 31);
-    full(sectors, g, 1, 32);
-    full(sectors, g, 2, 31);
-    full(sectors, g, 2, 32);
+    full(rt, sectors, g, 1, 30)?;
+    full(rt, sectors, g, 1, 31)?;
+    full(rt, sectors, g, 1, 32)?;
+    full(rt, sectors, g, 2, 31)?;
+    full(rt, sectors, g, 2, 32)
 }
 
 // A label, counters, a label that names drive 2, a reset.
@@ -286,26 +287,25 @@ fn build_more(sectors: &mut [u8], g: Geometry)
     place(sectors, g, 0, 7, 1, 5);
 }
 
-fn all_mixed(sectors: &[u8], g: Geometry)
+fn all_mixed(rt: &impl Print, sectors: &[u8], g: Geometry) -> io::Result<()>
     requires worked { Worked g }
     requires sectors_len { length sectors.now ≡ 40960 }
 {
-    let mut n = 0;
-    while n < 10 {
-        mixed(sectors, g, n);
-        n += 1;
+    for n in 0..10 {
+        mixed(rt, sectors, g, n)?;
     }
+    Ok(())
 }
 
-fn main() {
+fn main(rt: HostRuntime) -> io::Result<()> {
     let g = shape();
     let mut space = zeros();
     let sectors: &mut [u8] = &mut space;
-    all_damaged(sectors, g);
-    all_torn(sectors, g);
+    all_damaged(&rt, sectors, g)?;
+    all_torn(&rt, sectors, g)?;
     build_full(sectors, g);
-    all_full(sectors, g);
+    all_full(&rt, sectors, g)?;
     build_mixed(sectors, g);
     build_more(sectors, g);
-    all_mixed(sectors, g);
+    all_mixed(&rt, sectors, g)
 }

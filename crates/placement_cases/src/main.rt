@@ -4,102 +4,104 @@
 
 ghost use Rattle.tables.specs.meaning.Geometry.{Valid};
 
+use std::io;
 use tables::Geometry;
 
-fn text(s: &[u8]) {
-    io::write_all(1, s);
+fn text(rt: &impl Print, s: &[u8]) -> io::Result<()> {
+    rt.write_all(s)
 }
 
-fn number(n: usize) {
-    io::print_decimal(1, n as u64);
+fn number(rt: &impl Print, n: usize) -> io::Result<()> {
+    rt.print(n)
 }
 
 // Where the sector at an address of the volume lies.
-fn place(name: &[u8], g: Geometry, address: usize)
+fn place(rt: &impl Print, name: &[u8], g: Geometry, address: usize) -> io::Result<()>
     requires { Valid g }
 {
     let n = tables::bounds::zone_sectors(g);
     let zone = address / n;
     if g.zones <= zone {
-        return;
+        return Ok(());
     }
     let a = address % n;
     let d = tables::placement::drive_of(g, zone, a);
     let x = tables::placement::sector_of(g, a);
-    text(name);
-    text(b" drive ");
-    number(d);
-    text(b" zone ");
-    number(tables::DATA_ZONES + zone);
-    text(b" sector ");
-    number(x);
-    text(b"\n");
+    text(rt, name)?;
+    text(rt, b" drive ")?;
+    number(rt, d)?;
+    text(rt, b" zone ")?;
+    number(rt, tables::DATA_ZONES + zone)?;
+    text(rt, b" sector ")?;
+    number(rt, x)?;
+    text(rt, b"\n")
 }
 
 // The parity drive at a sector of zone 0.
-fn parity(name: &[u8], g: Geometry, x: usize)
+fn parity(rt: &impl Print, name: &[u8], g: Geometry, x: usize) -> io::Result<()>
     requires { Valid g }
 {
     let u = g.unit;
     let stripe = x / u;
     if 65536 < stripe {
-        return;
+        return Ok(());
     }
     let d = tables::placement::parity_drive(g.drives, 0, stripe);
-    text(name);
-    text(b" drive ");
-    number(d);
-    text(b" zone 3 sector ");
-    number(x);
-    text(b"\n");
+    text(rt, name)?;
+    text(rt, b" drive ")?;
+    number(rt, d)?;
+    text(rt, b" zone 3 sector ")?;
+    number(rt, x)?;
+    text(rt, b"\n")
 }
 
-fn need(g: Geometry, n: usize, drive: usize)
+fn need(rt: &impl Print, g: Geometry, n: usize, drive: usize) -> io::Result<()>
     requires { Valid g }
 {
     let most = tables::bounds::zone_sectors(g);
     if most < n {
-        return;
+        return Ok(());
     }
     if g.drives <= drive {
-        return;
+        return Ok(());
     }
     let k = tables::placement::sectors_needed(g, 0, n, drive);
-    text(b" ");
-    number(k);
+    text(rt, b" ")?;
+    number(rt, k)
 }
 
 // What pointer n of zone 0 needs of each of the four drives.
-fn needs(name: &[u8], g: Geometry, n: usize)
+fn needs(rt: &impl Print, name: &[u8], g: Geometry, n: usize) -> io::Result<()>
     requires { Valid g }
 {
-    text(name);
-    text(b" needs");
-    need(g, n, 0);
-    need(g, n, 1);
-    need(g, n, 2);
-    need(g, n, 3);
-    text(b"\n");
+    text(rt, name)?;
+    text(rt, b" needs")?;
+    need(rt, g, n, 0)?;
+    need(rt, g, n, 1)?;
+    need(rt, g, n, 2)?;
+    need(rt, g, n, 3)?;
+    text(rt, b"\n")
 }
 
-fn all(g: Geometry)
+fn all(rt: &impl Print, g: Geometry) -> io::Result<()>
     requires { Valid g }
 {
-    place(b"a", g, 0);
-    place(b"b", g, 7);
-    place(b"c", g, 95);
-    place(b"d", g, 96);
-    parity(b"e", g, 2);
-    parity(b"e", g, 3);
-    needs(b"f", g, 5);
-    needs(b"g", g, 6);
-    needs(b"h", g, 7);
+    place(rt, b"a", g, 0)?;
+    place(rt, b"b", g, 7)?;
+    place(rt, b"c", g, 95)?;
+    place(rt, b"d", g, 96)?;
+    parity(rt, b"e", g, 2)?;
+    parity(rt, b"e", g, 3)?;
+    needs(rt, b"f", g, 5)?;
+    needs(rt, b"g", g, 6)?;
+    needs(rt, b"h", g, 7)
 }
 
-fn main() {
+fn main(rt: HostRuntime) -> io::Result<()> {
     let g = tables::bounds::geometry_of(4, 64, 2, 2, 32);
     let ok = tables::bounds::valid(g);
     if ok {
-        all(g);
+        all(&rt, g)?;
     }
+    Ok(())
 }

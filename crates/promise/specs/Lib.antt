@@ -1,13 +1,1 @@
-pub mod calls
-pub mod content
-pub mod device
-pub mod emptying
-pub mod examples
-pub mod invariant
-pub mod isolation
-pub mod look
 pub mod meaning
-pub mod mount
-pub mod roles
-pub mod shown
-pub mod tables

@@ -6,6 +6,7 @@
 ghost use Rattle.std.specs.Prelude.{◌≡◌, length};
 
 use replaying::{Command, Host, Reply};
+use std::io;
 use volume::{BadPlace, State};
 
 // Space for the script.
@@ -23,94 +24,96 @@ fn sector_space() -> [u8; 524288]
 }
 
 // Bytes of the answer line.
-fn text(s: &[u8]) {
-    io::write_all(1, s);
+fn text(rt: &impl Print, s: &[u8]) -> io::Result<()> {
+    rt.write_all(s)
 }
 
 // A decimal number of the answer line.
-fn number(n: u64) {
-    io::print_decimal(1, n);
+fn number(rt: &impl Print, n: u64) -> io::Result<()> {
+    rt.print(n)
 }
 
 // A space and a number.
-fn field(n: u64) {
-    text(b" ");
-    number(n);
+fn field(rt: &impl Print, n: u64) -> io::Result<()> {
+    text(rt, b" ")?;
+    number(rt, n)
 }
 
 // A number of 32 bits of the answer line.
-fn word(n: u32) {
-    number(n as u64);
+fn word(rt: &impl Print, n: u32) -> io::Result<()> {
+    number(rt, n as u64)
 }
 
 // One zone's record: generation, condition, pointer, owner.
-fn show_record(s: State, owners: [u32; 16], z: usize) {
+fn show_record(rt: &impl Print, s: State, owners: [u32; 16], z: usize) -> io::Result<()> {
     if 16 <= z {
-        return;
+        return Ok(());
     }
     let r = s.zones[z];
     let c = r.condition;
     let p = volume::records::pointer_of(c);
-    field(r.generation);
-    text(b":");
-    number(volume::numbers::condition_number(c) as u64);
-    text(b":");
-    number(p as u64);
-    text(b":");
-    word(owners[z]);
+    field(rt, r.generation)?;
+    text(rt, b":")?;
+    number(rt, volume::numbers::condition_number(c) as u64)?;
+    text(rt, b":")?;
+    number(rt, p as u64)?;
+    text(rt, b":")?;
+    word(rt, owners[z])
 }
 
 // What is left of the hosts' shares of one drive.
-fn show_share(s: State, d: usize) {
+fn show_share(rt: &impl Print, s: State, d: usize) -> io::Result<()> {
     if 8 <= d {
-        return;
+        return Ok(());
     }
     let shares = s.shares;
-    text(b" ");
-    word(shares[d * volume::HOSTS]);
-    text(b"/");
-    word(shares[d * volume::HOSTS + 1]);
+    text(rt, b" ")?;
+    word(rt, shares[d * volume::HOSTS])?;
+    text(rt, b"/")?;
+    word(rt, shares[d * volume::HOSTS + 1])
 }
 
 // The shares of so many drives.
-fn show_shares(s: State, drives: usize) {
-    let mut d = 0;
-    while d < drives {
-        show_share(s, d);
-        d += 1;
+fn show_shares(rt: &impl Print, s: State, drives: usize) -> io::Result<()> {
+    for d in 0..drives {
+        show_share(rt, s, d)?;
     }
+    Ok(())
 }
 
 // A state: the lost drive, then the zones' records, then the drives' shares.
-fn show_state(s: State, owners: [u32; 16], zones: usize, drives: usize) {
-    text(b" lost");
-    field(s.lost as u64);
-    let mut z = 0;
-    while z < zones {
-        show_record(s, owners, z);
-        z += 1;
+fn show_state(
+    rt: &impl Print,
+    s: State,
+    owners: [u32; 16],
+    zones: usize,
+    drives: usize,
+) -> io::Result<()> {
+    text(rt, b" lost")?;
+    field(rt, s.lost as u64)?;
+    for z in 0..zones {
+        show_record(rt, s, owners, z)?;
     }
-    show_shares(s, drives);
+    show_shares(rt, s, drives)
 }
 
 // What the line says of the host's state: none, the state after a call that may change it, else that it is the same.
-fn show_kept(h: Host, letter: u8) {
+fn show_kept(rt: &impl Print, h: Host, letter: u8) -> io::Result<()> {
     let s = h.state;
     let owners = h.owners;
     if !h.held {
-        text(b" none");
-        return;
+        return text(rt, b" none");
     }
     let changes = replaying::showing::may_keep(letter);
     if changes {
-        show_state(s, owners, h.zones, h.drives);
-        return;
+        return show_state(rt, s, owners, h.zones, h.drives);
     }
-    text(b" same");
+    text(rt, b" same")
 }
 
 // A zone read whole, as its checksum or the refusal.
 fn show_zone(
+    rt: &impl Print,
     space: &[u8],
     written: &[u32],
     durable: &[u32],
@@ -118,54 +121,54 @@ fn show_zone(
     r: Reply,
     c: Command,
     z: usize,
-) {
+) -> io::Result<()> {
     let h = r.host;
     let shown = r.shown;
     let g = replaying::showing::read_zone(space, written, durable, buffer, h, c, shown, z);
     if g.code == 0 {
-        field(g.sum);
-        return;
+        return field(rt, g.sum);
     }
-    text(b" r");
-    number(g.code as u64);
+    text(rt, b" r")?;
+    number(rt, g.code as u64)
 }
 
 // What a look shows: the state, then each zone read.
 fn show_look(
+    rt: &impl Print,
     space: &[u8],
     written: &[u32],
     durable: &[u32],
     buffer: &mut [u8],
     r: Reply,
     c: Command,
-) {
+) -> io::Result<()> {
     let h = r.host;
     let shown = r.shown;
     let g = h.geometry;
     let zones = replaying::hosting::lend(g.zones, 0, 16);
     let drives = replaying::hosting::lend(g.drives, 0, 8);
     let owners = replaying::forming::owners_of(shown);
-    show_state(shown, owners, zones, drives);
-    let mut z = 0;
-    while z < zones {
-        show_zone(space, written, durable, buffer, r, c, z);
-        z += 1;
+    show_state(rt, shown, owners, zones, drives)?;
+    for z in 0..zones {
+        show_zone(rt, space, written, durable, buffer, r, c, z)?;
     }
+    Ok(())
 }
 
 // The place of a bad log, which a look or a mount tells that is refused for it.
-fn show_place(b: BadPlace) {
+fn show_place(rt: &impl Print, b: BadPlace) -> io::Result<()> {
     if b.number == 0 {
-        return;
+        return Ok(());
     }
-    text(b" at");
-    field(b.drive as u64);
-    field(b.zone as u64);
-    field(b.sector as u64);
+    text(rt, b" at")?;
+    field(rt, b.drive as u64)?;
+    field(rt, b.zone as u64)?;
+    field(rt, b.sector as u64)
 }
 
 // What a finished look, read, peek or report adds to the line, and a refusal for a log.
 fn show_rest(
+    rt: &impl Print,
     space: &[u8],
     written: &[u32],
     durable: &[u32],
@@ -173,35 +176,35 @@ fn show_rest(
     places: &[u8],
     r: Reply,
     c: Command,
-) {
+) -> io::Result<()> {
     let h = r.host;
     let letter = c.letter;
     if r.code != 0 {
-        show_place(r.place);
-        return;
+        return show_place(rt, r.place);
     }
     if letter == b'l' {
-        show_look(space, written, durable, buffer, r, c);
-        return;
+        return show_look(rt, space, written, durable, buffer, r, c);
     }
     if letter == b'd' {
-        field(replaying::showing::read_sum(buffer, h, c));
-        return;
+        return field(rt, replaying::showing::read_sum(buffer, h, c));
     }
     if letter == b'p' {
-        field(replaying::showing::peek_place(places, written, durable, h, c));
-        field(replaying::showing::peek_sum(space, written, durable, h, c));
-        return;
+        let place = replaying::showing::peek_place(places, written, durable, h, c);
+        let sum = replaying::showing::peek_sum(space, written, durable, h, c);
+        field(rt, place)?;
+        return field(rt, sum);
     }
     if letter == b'o' {
         let l = replaying::listing::listed(h, c);
-        field(replaying::listing::report_filled(l));
-        field(replaying::listing::list_sum(l, c));
+        field(rt, replaying::listing::report_filled(l))?;
+        return field(rt, replaying::listing::list_sum(l, c));
     }
+    Ok(())
 }
 
 // The answer line.
 fn show(
+    rt: &impl Print,
     space: &[u8],
     written: &[u32],
     durable: &[u32],
@@ -209,16 +212,16 @@ fn show(
     places: &[u8],
     r: Reply,
     c: Command,
-) {
+) -> io::Result<()> {
     let letter = [c.letter];
     let h = r.host;
-    text(&letter);
-    field(r.code as u64);
-    field(replaying::showing::sectors_sum(space, h));
-    field(replaying::showing::pointers_sum(written, durable, h));
-    show_kept(h, c.letter);
-    show_rest(space, written, durable, buffer, places, r, c);
-    text(b"\n");
+    text(rt, &letter)?;
+    field(rt, r.code as u64)?;
+    field(rt, replaying::showing::sectors_sum(space, h))?;
+    field(rt, replaying::showing::pointers_sum(written, durable, h))?;
+    show_kept(rt, h, c.letter)?;
+    show_rest(rt, space, written, durable, buffer, places, r, c)?;
+    text(rt, b"\n")
 }
 
 // The host after an answer: its shortage is over unless it was just announced.
@@ -231,6 +234,7 @@ fn answered(h: Host, letter: u8) -> Host {
 
 // One command: carried out and answered.
 fn step(
+    rt: &impl Print,
     space: &mut [u8],
     written: &mut [u32],
     durable: &mut [u32],
@@ -238,36 +242,39 @@ fn step(
     places: &[u8],
     h: Host,
     c: Command,
-) -> Host {
+) -> io::Result<Host> {
     let r = replaying::performing::perform(space, written, durable, buffer, h, c);
-    show(space, written, durable, buffer, places, r, c);
+    show(rt, space, written, durable, buffer, places, r, c)?;
     let t = r.host;
-    answered(t, c.letter)
+    Ok(answered(t, c.letter))
 }
 
 // The script, line after line.
 fn replay(
+    rt: &impl Print,
     script: &[u8],
     space: &mut [u8],
     written: &mut [u32],
     durable: &mut [u32],
     buffer: &mut [u8],
     places: &[u8],
-) {
+) -> io::Result<()> {
     let n = script.len();
     let mut h = replaying::hosting::first_host();
     let mut at = 0;
     while at < n {
         let c = replaying::parsing::command_at(script, at);
-        h = step(space, written, durable, buffer, places, h, c);
+        h = step(rt, space, written, durable, buffer, places, h, c)?;
         at = c.next;
     }
+    Ok(())
 }
 
 // All of standard input, replayed on a shelf of at most 524,288 bytes; no script of the vectors has a larger one.
-fn main() {
+fn main(rt: HostRuntime) -> io::Result<()> {
     let mut script = script_space();
-    let n = io::read_full(0, &mut script);
+    let mut input = rt.reader();
+    let n = replaying::input::read_full(&mut input, &mut script)?;
     let mut space = sector_space();
     let mut places = sector_space();
     let mut buffer = [0u8; 65536];
@@ -275,11 +282,12 @@ fn main() {
     let mut durable = [0u32; 152];
     replaying::showing::mark_places(&mut places);
     replay(
+        &rt,
         &script[..n],
         &mut space,
         &mut written,
         &mut durable,
         &mut buffer,
         &places,
-    );
+    )
 }

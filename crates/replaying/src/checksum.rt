@@ -33,13 +33,9 @@ fn sum_bytes(s: Sums, bytes: &[u8]) -> Sums
     requires { Small s }
     ensures { Small result }
 {
-    let n = bytes.len();
     let mut t = s;
-    let mut i = 0;
-    while i < n {
-        let b = tables::bytes::wide(bytes[i]);
-        t = add_byte(t, b);
-        i += 1;
+    for byte in bytes {
+        t = add_byte(t, tables::bytes::wide(*byte));
     }
     t
 }
@@ -81,13 +77,9 @@ fn sum_words(s: Sums, table: &[u32]) -> Sums
     requires { Small s }
     ensures { Small result }
 {
-    let n = table.len();
     let mut t = s;
-    let mut i = 0;
-    while i < n {
-        let w = wide_pointer(table[i]);
-        t = add_word(t, w);
-        i += 1;
+    for pointer in table {
+        t = add_word(t, wide_pointer(*pointer));
     }
     t
 }

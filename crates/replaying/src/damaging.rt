@@ -6,11 +6,8 @@ use tables::Geometry;
 
 // All pointers 0.
 pub fn clear_pointers(out: &mut [u32]) {
-    let n = out.len();
-    let mut i = 0;
-    while i < n {
-        out[i] = 0;
-        i += 1;
+    for pointer in out.iter_mut() {
+        *pointer = 0;
     }
 }
 

@@ -7,12 +7,10 @@ use volume::{Condition, State, ZoneRecord};
 pub fn owners_of(s: State) -> [u32; 16] {
     let zones = s.zones;
     let mut out = [0u32; 16];
-    let mut z = 0;
-    while z < 16 {
+    for z in 0..16 {
         let r = zones[z];
         let owner = r.owner;
         out[z] = volume::numbers::owner_number(owner);
-        z += 1;
     }
     out
 }
@@ -42,11 +40,9 @@ fn some_record_odd(h: Host) -> bool {
     let zones = s.zones;
     let owners = h.owners;
     let mut odd = false;
-    let mut z = 0;
-    while z < 16 {
+    for z in 0..16 {
         let one = record_odd(zones[z], owners[z], n <= z);
         odd = odd | one;
-        z += 1;
     }
     odd
 }
@@ -58,11 +54,9 @@ fn some_share_odd(h: Host) -> bool {
     let s = h.state;
     let shares = s.shares;
     let mut odd = false;
-    let mut i = 0;
-    while i < volume::MAX_SHARES {
+    for i in 0..volume::MAX_SHARES {
         let share = shares[i];
         odd = odd | ((n <= i / volume::HOSTS) & (share != 0));
-        i += 1;
     }
     odd
 }

@@ -11,6 +11,7 @@ pub mod checksum;
 pub mod damaging;
 pub mod forming;
 pub mod hosting;
+pub mod input;
 pub mod listing;
 pub mod parsing;
 pub mod performing;

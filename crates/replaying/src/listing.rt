@@ -21,7 +21,7 @@ fn untouched() -> ZoneDescriptor {
     }
 }
 
-// The report into the first descriptors of a list. It alone makes a reference to them, which is proved by hand.
+// The report into the first descriptors of a list; those past them stay.
 fn report_into(g: Geometry, state: State, mut list: [ZoneDescriptor; 16], room: usize) -> Listed
     requires { room ≤ 16 }
     ensures { (result.reported.answer ≡ (report_on g (view_state state) (take room list)).answer)
@@ -86,10 +86,8 @@ pub fn report_filled(l: Listed) -> u64 {
 pub fn list_sum(l: Listed, c: Command) -> u64 {
     let room = c.first as usize;
     let mut s = super::checksum::start_sums();
-    let mut z = 0;
-    while z < room {
+    for z in 0..room {
         s = add_listed(s, l, z);
-        z += 1;
     }
     super::checksum::sum_number(s)
 }

@@ -105,11 +105,9 @@ pub fn mark_places(places: &mut [u8]) {
     if 1048576 < n {
         return;
     }
-    let mut i = 0;
-    while i < n {
+    for i in 0..n {
         let at = 4 * i;
         tables::bytes::write_u32(places, at, at as u32);
-        i += 1;
     }
 }
 

@@ -23,13 +23,10 @@ fn draw_byte(x: u64) -> u8 {
 
 // Fills a buffer with the stream's bytes.
 pub fn fill(out: &mut [u8], seed: u64) {
-    let n = out.len();
     let mut x = seed_start(seed);
-    let mut i = 0;
-    while i < n {
+    for byte in out.iter_mut() {
         x = next_draw(x);
-        out[i] = draw_byte(x);
-        i += 1;
+        *byte = draw_byte(x);
     }
 }
 
@@ -59,10 +56,8 @@ pub fn cut(written: &mut [u32], durable: &mut [u32], seed: u64)
 {
     let n = written.len();
     let mut x = seed_start(seed);
-    let mut i = 0;
-    while i < n {
+    for i in 0..n {
         x = next_draw(x);
         cut_cell(written, durable, i, x);
-        i += 1;
     }
 }

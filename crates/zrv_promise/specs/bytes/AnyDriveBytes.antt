@@ -19,12 +19,12 @@ use Rattle.promise.specs.meaning.Caches.{WithCaches, beneath}
 use Rattle.promise.specs.meaning.OnTables.{shown_in, on_tables}
 use Rattle.promise.specs.meaning.CachesOnTables.{on_caching_tables}
 use Rattle.promise.specs.meaning.AnyDrive.{NoneStored, AnyDriveClaim}
-use Rattle.promise.specs.device.CachedPromise.{names_beneath}
-use Rattle.promise.specs.shown.MountSettles.{Settled}
-use Rattle.promise.specs.shown.AnyDrive.{StandsFor, any_drive_from}
-use Rattle.promise.specs.tables.CallsSeen.{seen_as}
-use Rattle.promise.specs.shown.AnyDriveCaching.{caches_stay, tables_seen}
-use Rattle.promise.specs.shown.AnyDriveOlder.{older_any_drive}
+use Rattle.promise.proofs.device.CachedPromise.{names_beneath}
+use Rattle.promise.proofs.shown.MountSettles.{Settled}
+use Rattle.promise.proofs.shown.AnyDrive.{StandsFor, any_drive_from}
+use Rattle.promise.proofs.tables.CallsSeen.{seen_as}
+use Rattle.promise.proofs.shown.AnyDriveCaching.{caches_stay, tables_seen}
+use Rattle.promise.proofs.shown.AnyDriveOlder.{older_any_drive}
 use Rattle.zrv.specs.meaning.Bytes.{state_from}
 use Rattle.zrv.specs.meaning.EdgeCalls.{named_of, format_edge}
 use Rattle.zrv.specs.laws.StateRoundTrip.{shown_read_back}

@@ -28,11 +28,11 @@ use Rattle.promise.specs.meaning.Ledger.{Fits}
 use Rattle.promise.specs.meaning.Claim.{Call, mounts, writes, flushes, resets, formats, compacts, System, answered, reported, heard, Event, calls, looks, reads, peeks, reports, cuts, loses, MayMount, ready, settled, ledger_after, next, NamesAll, Duty, Serves, Promise, start}
 use Rattle.promise.specs.meaning.OnDevice.{state_shown}
 use Rattle.promise.specs.meaning.OnTables.{result_on, call_result, shown_in, on_tables}
-use Rattle.promise.specs.device.AtRestAnswers.{left_out_lem}
-use Rattle.promise.specs.device.Heard.{answer_heard, answer_alike, read_alike, peek_alike}
-use Rattle.promise.specs.tables.TablesEvents.{TablesOk, loss_event}
-use Rattle.promise.specs.tables.CallRefines.{held_agrees}
-use Rattle.promise.specs.tables.TablesClaimProof.{tables_promise, tables_event, tables_start}
+use Rattle.promise.proofs.device.AtRestAnswers.{left_out_lem}
+use Rattle.promise.proofs.device.Heard.{answer_heard, answer_alike, read_alike, peek_alike}
+use Rattle.promise.proofs.tables.TablesEvents.{TablesOk, loss_event}
+use Rattle.promise.proofs.tables.CallRefines.{held_agrees}
+use Rattle.promise.proofs.tables.TablesClaimProof.{tables_promise, tables_event, tables_start}
 use Rattle.zrv.specs.meaning.Bytes.{table_from, table_to, state_from, state_to}
 use Rattle.zrv.specs.meaning.EdgeCalls.{named_of, input_number, sizes_number, Ranges, tables_in, unread_state, Answered, stored_all, without_place, look_of_bytes, look_edge, format_of_bytes, format_edge}
 use Rattle.zrv.specs.laws.EdgeCalls.{Sized, input_passed, sizes_passed, refused, made}

@@ -18,16 +18,16 @@ use Rattle.promise.specs.meaning.OnTables.{on_tables}
 use Rattle.promise.specs.meaning.Caches.{Remembered, beneath}
 use Rattle.promise.specs.meaning.CachesOnTables.{on_caching_tables}
 use Rattle.promise.specs.meaning.ResetLasts.{ResetsLast}
-use Rattle.promise.specs.invariant.Throughout.{throughout}
-use Rattle.promise.specs.shown.ResetLasts.{resets_last}
-use Rattle.promise.specs.device.AtRestAnswers.{left_out_lem}
-use Rattle.promise.specs.device.CachedModes.{OkCached, RestsCached, lose_cached}
-use Rattle.promise.specs.device.CachedPromise.{names_beneath, cached_promise}
-use Rattle.promise.specs.device.CachedClaim.{caches_owed}
-use Rattle.promise.specs.device.OlderDrives.{OlderCuts, older_drives}
-use Rattle.promise.specs.tables.TablesEvents.{TablesOk}
-use Rattle.promise.specs.tables.CachedTables.{TablesOkCached}
-use Rattle.promise.specs.tables.CachedTablesClaim.{tables_event_cached, tables_start_cached, tables_older_cuts}
+use Rattle.promise.proofs.invariant.Throughout.{throughout}
+use Rattle.promise.proofs.shown.ResetLasts.{resets_last}
+use Rattle.promise.proofs.device.AtRestAnswers.{left_out_lem}
+use Rattle.promise.proofs.device.CachedModes.{OkCached, RestsCached, lose_cached}
+use Rattle.promise.proofs.device.CachedPromise.{names_beneath, cached_promise}
+use Rattle.promise.proofs.device.CachedClaim.{caches_owed}
+use Rattle.promise.proofs.device.OlderDrives.{OlderCuts, older_drives}
+use Rattle.promise.proofs.tables.TablesEvents.{TablesOk}
+use Rattle.promise.proofs.tables.CachedTables.{TablesOkCached}
+use Rattle.promise.proofs.tables.CachedTablesClaim.{tables_event_cached, tables_start_cached, tables_older_cuts}
 use Rattle.zrv.specs.meaning.Bytes.{state_from}
 use Rattle.zrv.specs.meaning.EdgeCalls.{named_of, tables_in, format_edge, unread_state}
 use Rattle.zrv_promise.specs.meaning.OnBytes.{LentBytes, ranges_of, tables_at, StillBytes, on_bytes, BytesClaim}

@@ -10,7 +10,7 @@ use Rattle.volume.specs.meaning.Answers.{CallResult}
 use Rattle.promise.specs.meaning.Claim.{Call, System, NamesAll}
 use Rattle.promise.specs.meaning.Caches.{WithCaches, beneath}
 use Rattle.promise.specs.meaning.CachesOnTables.{on_caching_tables}
-use Rattle.promise.specs.device.CachedPromise.{names_beneath}
+use Rattle.promise.proofs.device.CachedPromise.{names_beneath}
 use Rattle.zrv.specs.meaning.Bytes.{state_from}
 use Rattle.zrv.specs.meaning.EdgeCalls.{named_of}
 use Rattle.zrv_promise.specs.meaning.OnBytes.{LentBytes, tables_at, on_bytes}

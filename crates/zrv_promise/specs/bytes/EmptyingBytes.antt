@@ -17,8 +17,8 @@ use Rattle.promise.specs.meaning.Caches.{WithCaches}
 use Rattle.promise.specs.meaning.CachesOnTables.{TablesCachingCut, on_caching_tables}
 use Rattle.promise.specs.meaning.Histories.{ShowsAlike}
 use Rattle.promise.specs.meaning.Emptied.{AlikeUpTo, Emptyings, flush_end, emptyings_of_compact, emptyings_of_reset, emptyings_of_mount, parity_emptyings_of_mount, entry_made, stopped_at, KeepsLooks, EmptyingsKeepLooks, EmptyingsShowAlike}
-use Rattle.promise.specs.invariant.Throughout.{every_point}
-use Rattle.promise.specs.tables.EmptyingTables.{tables_emptyings_keep}
+use Rattle.promise.proofs.invariant.Throughout.{every_point}
+use Rattle.promise.proofs.tables.EmptyingTables.{tables_emptyings_keep}
 use Rattle.zrv.specs.meaning.Bytes.{state_from}
 use Rattle.zrv.specs.meaning.EdgeCalls.{named_of, format_edge}
 use Rattle.zrv_promise.specs.meaning.OnBytes.{LentBytes, ranges_of, tables_at}

@@ -21,17 +21,17 @@ use Rattle.promise.specs.meaning.Claim.{Call, mounts, writes, flushes, resets, f
 use Rattle.promise.specs.meaning.OnTables.{on_tables}
 use Rattle.promise.specs.meaning.Caches.{beneath}
 use Rattle.promise.specs.meaning.Isolation.{DesksIsolated}
-use Rattle.promise.specs.emptying.BlankSpares.{BlankSpares}
-use Rattle.promise.specs.device.Heard.{answer_heard, answer_alike, read_heard, peek_heard}
-use Rattle.promise.specs.device.BlankAtRest.{loss_blank}
-use Rattle.promise.specs.device.CachedPromise.{beneath_keeps}
-use Rattle.promise.specs.tables.TablesClaimProof.{tables_start_blank}
-use Rattle.promise.specs.tables.RoomyTables.{TablesKnown, event_blank_on}
-use Rattle.promise.specs.isolation.Laws.{SameView, BothReady, Laws}
-use Rattle.promise.specs.isolation.Isolated.{NoOwners, isolated_from}
-use Rattle.promise.specs.isolation.TablesLaws.{tables_laws}
-use Rattle.promise.specs.isolation.CachingLaws.{caching_laws}
-use Rattle.promise.specs.isolation.Proved.{tables_format_owners, tables_mount_owners}
+use Rattle.promise.proofs.emptying.BlankSpares.{BlankSpares}
+use Rattle.promise.proofs.device.Heard.{answer_heard, answer_alike, read_heard, peek_heard}
+use Rattle.promise.proofs.device.BlankAtRest.{loss_blank}
+use Rattle.promise.proofs.device.CachedPromise.{beneath_keeps}
+use Rattle.promise.proofs.tables.TablesClaimProof.{tables_start_blank}
+use Rattle.promise.proofs.tables.RoomyTables.{TablesKnown, event_blank_on}
+use Rattle.promise.proofs.isolation.Laws.{SameView, BothReady, Laws}
+use Rattle.promise.proofs.isolation.Isolated.{NoOwners, isolated_from}
+use Rattle.promise.proofs.isolation.TablesLaws.{tables_laws}
+use Rattle.promise.proofs.isolation.CachingLaws.{caching_laws}
+use Rattle.promise.proofs.isolation.Proved.{tables_format_owners, tables_mount_owners}
 use Rattle.zrv.specs.meaning.Bytes.{state_from}
 use Rattle.zrv.specs.meaning.EdgeCalls.{named_of, tables_in, unread_state, format_edge}
 use Rattle.zrv_promise.specs.meaning.OnBytes.{LentBytes, ranges_of, tables_at, on_bytes}

@@ -18,7 +18,7 @@ use Rattle.volume.specs.meaning.Calls.{format_stores}
 use Rattle.volume.specs.meaning.Answers.{left_out, named_drives}
 use Rattle.volume.specs.meaning.CallContracts.{is_set, answer_number, format_on}
 use Rattle.promise.specs.meaning.Claim.{mounts, System, Event, calls, cuts, loses, Dutiful, Throughout, start}
-use Rattle.promise.specs.examples.TablesExample.{every, without1, without1_named, format_finishes, none_lost_lem}
+use Rattle.promise.proofs.examples.TablesExample.{every, without1, without1_named, format_finishes, none_lost_lem}
 use Rattle.zrv.specs.meaning.Bytes.{state_bytes, table_from}
 use Rattle.zrv.specs.meaning.EdgeCalls.{named_of, tables_in, unread_state, stored_all, format_of_bytes, format_edge, Answered, Ranges}
 use Rattle.zrv.specs.laws.EdgeCalls.{Sized, input_passed, made}

@@ -9,32 +9,32 @@ use Rattle.zrv.proofs.input.input_refusal.Statement.{statement}
 use Rattle.zrv.proofs.input.input_refusal.Tie as tie
 
 -- the geometry is good
-valid : (c : tie.Else1) → is_valid c.before.before.before.args.g ≡ true
-valid c = sym c.before.valid.ensures ∙ not-false c.before.valid.result c.if1.false
+valid : (c : tie.Else-not-ok) → is_valid c.args.g ≡ true
+valid c = sym c.valid-ok.ensures ∙ not-false c.valid-ok.result c.if-not-ok.false-raw
 
-returns : tie.Need-returns
+returns : tie.Need-returns-then-not-ok
 unfolding input_number
-returns c = rw (sym c.before.valid.ensures ∙ not-true c.before.valid.result c.if1.true) refl
+returns c = rw (sym c.valid-ok.ensures ∙ not-true c.valid-ok.result c.if-not-ok.true-raw) refl
 
-state-bad-requires : tie.Need-state-bad-requires
+state-bad-requires : tie.Need-state_bad-bad-requires
 state-bad-requires c κs = valid_if_test _ (valid c)
 
-returns-2 : tie.Need-returns-2
+returns-2 : tie.Need-returns-then-bad
 unfolding input_number
-returns-2 c = rw (valid c.before.before, sym c.before.state-bad.ensures ∙ c.if2.true) refl
+returns-2 c = rw (valid c.before.before, sym c.state_bad-bad.ensures ∙ c.if-bad.true) refl
 
-sizes-fit-requires : tie.Need-sizes-fit-requires
+sizes-fit-requires : tie.Need-sizes_fit-fit-requires
 sizes-fit-requires c κs = valid_if_test _ (valid c.before.before)
 
-returns-3 : tie.Need-returns-3
+returns-3 : tie.Need-returns-then-fit
 unfolding input_number
-returns-3 c = rw (valid c.before.before.before.before, sym c.before.before.before.state-bad.ensures ∙ c.before.before.if2.false, sym c.before.sizes-fit.ensures ∙ c.if3.true) refl
+returns-3 c = rw (valid c.before.before.before.before, sym c.state_bad-bad.ensures ∙ c.if-bad.false, sym c.sizes_fit-fit.ensures ∙ c.if-fit.true) refl
 
-returns-4 : tie.Need-returns-4
+returns-4 : tie.Need-returns-else-fit
 unfolding input_number
-returns-4 c = rw (valid c.before.before.before.before, sym c.before.before.before.state-bad.ensures ∙ c.before.before.if2.false, sym c.before.sizes-fit.ensures ∙ c.if3.false) refl
+returns-4 c = rw (valid c.before.before.before.before, sym c.state_bad-bad.ensures ∙ c.if-bad.false, sym c.sizes_fit-fit.ensures ∙ c.if-fit.false) refl
 
-pub input-refusal-spec : {M : Type 1} → statement M
-input-refusal-spec =
+pub input_refusal_spec : {M : Type 1} → statement M
+input_refusal_spec =
     tie.close
     (tie.spec (λ c κs. search rules) returns state-bad-requires returns-2 sizes-fit-requires returns-3 returns-4)

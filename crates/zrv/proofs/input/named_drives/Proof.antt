@@ -7,5 +7,5 @@ returns : tie.Need-returns
 unfolding named_of
 returns c = refl
 
-pub named-drives-spec : {M : Type 1} → statement M
-named-drives-spec = tie.close (tie.spec returns)
+pub named_drives_spec : {M : Type 1} → statement M
+named_drives_spec = tie.close (tie.spec returns)

@@ -4,10 +4,10 @@ use borrow.Author.Rules.{rules}
 use Rattle.zrv.proofs.input.place_number.Statement.{statement}
 use Rattle.zrv.proofs.input.place_number.Tie as tie
 
-returns-4 : tie.Need-returns-4
-returns-4 c = let e = c.place_of.ensures in (e.0 ∙ sym (ap place_number c.before.before.a.given.1), e.1)
+returns-4 : tie.Need-returns-in-BadLog
+returns-4 c = let e = c.place_of.ensures in (e.0 ∙ sym (ap place_number c.in-BadLog.is), e.1)
 
-pub place-number-spec : {M : Type 1} → statement M
-place-number-spec =
+pub place_number_spec : {M : Type 1} → statement M
+place_number_spec =
     tie.close
     (tie.spec (λ c. search rules) (λ c. search rules) (λ c. search rules) (λ c. search rules) (λ c κs. search rules) (λ c. search rules) (λ c. search rules) (λ c. search rules) returns-4)

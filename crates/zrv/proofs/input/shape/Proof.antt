@@ -5,7 +5,7 @@ use Rattle.zrv.proofs.input.shape.Tie as tie
 
 returns : tie.Need-returns
 unfolding shape_of
-returns c = c.geometry-of.ensures
+returns c = c.geometry_of.ensures
 
-pub shape-spec : {M : Type 1} → statement M
-shape-spec = tie.close (tie.spec (λ c κs. search rules) returns)
+pub shape_spec : {M : Type 1} → statement M
+shape_spec = tie.close (tie.spec (λ c κs. search rules) returns)

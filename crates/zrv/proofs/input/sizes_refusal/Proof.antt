@@ -9,27 +9,27 @@ use Rattle.zrv.proofs.input.sizes_refusal.Statement.{statement}
 use Rattle.zrv.proofs.input.sizes_refusal.Tie as tie
 
 -- the geometry is good
-valid : (c : tie.Else1) → is_valid c.before.before.args.g ≡ true
-valid c = sym c.before.valid.ensures ∙ not-false c.before.valid.result c.if1.false
+valid : (c : tie.Else-not-ok) → is_valid c.args.g ≡ true
+valid c = sym c.valid-ok.ensures ∙ not-false c.valid-ok.result c.if-not-ok.false-raw
 
-valid-requires : tie.Need-valid-requires
+valid-requires : tie.Need-valid-ok-requires
 valid-requires c κs = search rules
 
-returns : tie.Need-returns
+returns : tie.Need-returns-then-not-ok
 unfolding sizes_number
-returns c = rw (sym c.before.valid.ensures ∙ not-true c.before.valid.result c.if1.true) refl
+returns c = rw (sym c.valid-ok.ensures ∙ not-true c.valid-ok.result c.if-not-ok.true-raw) refl
 
-sizes-fit-requires : tie.Need-sizes-fit-requires
+sizes-fit-requires : tie.Need-sizes_fit-fit-requires
 sizes-fit-requires c κs = valid_if_test _ (valid c)
 
-returns-2 : tie.Need-returns-2
+returns-2 : tie.Need-returns-then-fit
 unfolding sizes_number
-returns-2 c = rw (valid c.before.before, sym c.before.sizes-fit.ensures ∙ c.if2.true) refl
+returns-2 c = rw (valid c.before.before, sym c.sizes_fit-fit.ensures ∙ c.if-fit.true) refl
 
-returns-3 : tie.Need-returns-3
+returns-3 : tie.Need-returns-else-fit
 unfolding sizes_number
-returns-3 c = rw (valid c.before.before, sym c.before.sizes-fit.ensures ∙ c.if2.false) refl
+returns-3 c = rw (valid c.before.before, sym c.sizes_fit-fit.ensures ∙ c.if-fit.false) refl
 
-pub sizes-refusal-spec : {M : Type 1} → statement M
-sizes-refusal-spec =
+pub sizes_refusal_spec : {M : Type 1} → statement M
+sizes_refusal_spec =
     tie.close (tie.spec valid-requires returns sizes-fit-requires returns-2 returns-3)

@@ -5,13 +5,13 @@ use borrow.Author.Rules.{rules}
 use Rattle.zrv.proofs.input.state_bad.Statement.{statement}
 use Rattle.zrv.proofs.input.state_bad.Tie as tie
 
-returns : tie.Need-returns
+returns : tie.Need-returns-then-bytes-ne-STATE_BYTES
 unfolding state_bad
-returns c = rw (ne_eqb _ _ c.if1.true) refl
+returns c = rw (ne_eqb _ _ c.if-bytes-ne-STATE_BYTES.true) refl
 
-returns-2 : tie.Need-returns-2
+returns-2 : tie.Need-returns
 unfolding state_bad
-returns-2 c = rw (eq-eqb _ _ c.before.if1.false, c.state-fits.ensures) refl
+returns-2 c = rw (eq-eqb _ _ c.if-bytes-ne-STATE_BYTES.false, c.state_fits-fits.ensures) refl
 
-pub state-bad-spec : {M : Type 1} → statement M
-state-bad-spec = tie.close (tie.spec returns (λ c κs. search rules) returns-2)
+pub state_bad_spec : {M : Type 1} → statement M
+state_bad_spec = tie.close (tie.spec returns (λ c κs. search rules) returns-2)

@@ -6,7 +6,7 @@ use Rattle.zrv.proofs.input.unread_state.Tie as tie
 
 returns : tie.Need-returns
 unfolding unread_state
-returns c = rw c.blank-record.ensures refl
+returns c = rw c.blank_record-blank.ensures refl
 
-pub unread-state-spec : {M : Type 1} → statement M
-unread-state-spec = tie.close (tie.spec (λ c κs. search rules) returns)
+pub unread_state_spec : {M : Type 1} → statement M
+unread_state_spec = tie.close (tie.spec (λ c κs. search rules) returns)

@@ -12,21 +12,21 @@ use Rattle.zrv.specs.meaning.Bytes.{record_to}
 use Rattle.zrv.proofs.records.hand_record.Statement.{statement}
 use Rattle.zrv.proofs.records.hand_record.Tie as tie
 
-returns : tie.Need-returns
-returns c = let e = eq-eqb c.before.before.args.tried.rest 0 c.if1.true in (rw e refl, rw e refl)
+returns : tie.Need-returns-then-rest-eq0
+returns c = let e = eq-eqb c.args.tried.rest 0 c.if-rest-eq0.true in (rw e refl, rw e refl)
 
-returns-2 : tie.Need-returns-2
+returns-2 : tie.Need-returns
 returns-2 c =
-    let s = c.before.before.before.before.before.before.before.before.before.before.before in
+    let s = c.before.before.before.before.before.before.before.before.before.before in
     let a = s.args in
     let t = a.tried in
     let st = a.state.now in
-    let e = ne_eqb t.rest 0 c.before.before.before.before.before.before.before.before.before.if1.false in
-    let place = c.before.before.before.before.before.before.before.before.share-place.ensures.0 in
-    let owner = c.before.before.before.before.owner_of.ensures in
-    let share = c.before.before.before.before.before.share-less.ensures ∙ ap (λ (n : ℕ). n - t.taken) (c.before.before.before.before.before.before.share-at.ensures ∙ ap (λ (i : ℕ). read_le 4 st (264 + i * 4)) place) in
+    let e = ne_eqb t.rest 0 c.if-rest-eq0.false in
+    let place = c.share_place-at.ensures.0 in
+    let owner = c.owner_of-owner.ensures in
+    let share = c.share_less-share.ensures ∙ ap (λ (n : ℕ). n - t.taken) (c.share_at-old.ensures ∙ ap (λ (i : ℕ). read_le 4 st (264 + i * 4)) place) in
     let with : Owner → ℕ → ℕ → List ℕ = λ o i n. write_le 4 (overlay (write_le 8 st 0 (t.lost % 256)) (8 + 16 * a.z) (record_to (record { generation = a.generation; condition = Open t.pointer; owner = o }))) (264 + i * 4) n in
-    (rw e refl, c.before.before.put-parts.ensures ∙ (λ i. with (owner i) (place i) (share i)) ∙ rw e refl)
+    (rw e refl, c.put_parts.ensures ∙ (λ i. with (owner i) (place i) (share i)) ∙ rw e refl)
 
-pub hand-record-spec : {M : Type 1} → statement M
-hand-record-spec = tie.close (tie.spec returns (λ c κs. search rules) (λ c κs. search rules) (λ c κs. search rules) (λ c κs. search rules) (λ c κs. search rules) (λ c. search rules) returns-2)
+pub hand_record_spec : {M : Type 1} → statement M
+hand_record_spec = tie.close (tie.spec returns (λ c κs. search rules) (λ c κs. search rules) (λ c κs. search rules) (λ c κs. search rules) (λ c κs. search rules) (λ c. search rules) returns-2)

@@ -13,10 +13,10 @@ returns : tie.Need-returns
 returns c =
     let z = c.before.before in
     let p = z.before in
-    let a = p.before.before.before.before.args in
+    let a = p.args in
     let with : ℕ → ZoneRecord → Bool → ByRecord = λ l r b. record { geometry = a.g; named = a.named; lost = l; «record» = r; bad = b } in
-    ap₂ (λ (l : ℕ) (r : ZoneRecord). with l r p.pointers-bad.result) c.read_u64.ensures (c.before.record-at.ensures ∙ ap (record_at (state_from a.g a.state.now)) z.zone-of.ensures)
-    ∙ ap (with _ _) p.pointers-bad.ensures
+    ap₂ (λ (l : ℕ) (r : ZoneRecord). with l r p.pointers_bad-bad.result) c.read_u64-lost.ensures (c.record_at-record.ensures ∙ ap (record_at (state_from a.g a.state.now)) z.zone_of-z.ensures)
+    ∙ ap (with _ _) p.pointers_bad-bad.ensures
 
-pub record-of-spec : {M : Type 1} → statement M
-record-of-spec = tie.close (tie.spec (λ c κs. search rules) (λ c κs. search rules) (λ c κs. search rules) (λ c κs. search rules) returns)
+pub record_of_spec : {M : Type 1} → statement M
+record_of_spec = tie.close (tie.spec (λ c κs. search rules) (λ c κs. search rules) (λ c κs. search rules) (λ c κs. search rules) returns)

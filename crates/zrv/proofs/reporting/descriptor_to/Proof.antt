@@ -7,10 +7,10 @@ use Rattle.zrv.proofs.reporting.descriptor_to.Tie as tie
 returns : tie.Need-returns
 returns c =
     let s = c.before.before.before.before.before.before.before.before.before.before.before.before.before.before.before.before.before.before in
-    c.before.before.write-u644.ensures ∙ cc (descriptor_laid s.args.bytes.now s.args.at s.args.d s.requires)
+    c.write_u64-4.ensures ∙ cc (descriptor_laid s.args.bytes.now s.args.at s.args.d s.requires)
 
-pub descriptor-to-spec : {M : Type 1} → statement M
-descriptor-to-spec =
+pub descriptor_to_spec : {M : Type 1} → statement M
+descriptor_to_spec =
     tie.close
     (tie.spec (λ c κs. search rules) (λ c κs. search rules) (λ c. search rules) (λ c κs. search rules) (λ c. search rules) (λ c κs. search rules)
     (λ c. search rules) (λ c κs. search rules) (λ c. search rules) returns)

@@ -9,26 +9,26 @@ use Rattle.zrv.proofs.reporting.report_refusal.Statement.{statement}
 use Rattle.zrv.proofs.reporting.report_refusal.Tie as tie
 
 -- the geometry is good
-valid : (c : tie.Else1) → is_valid c.before.before.before.args.g ≡ true
-valid c = sym c.before.valid.ensures ∙ not-false c.before.valid.result c.if1.false
+valid : (c : tie.Else-not-ok) → is_valid c.args.g ≡ true
+valid c = sym c.valid-ok.ensures ∙ not-false c.valid-ok.result c.if-not-ok.false-raw
 
-returns : tie.Need-returns
+returns : tie.Need-returns-then-not-ok
 unfolding report_input
-returns c = rw (sym c.before.valid.ensures ∙ not-true c.before.valid.result c.if1.true) refl
+returns c = rw (sym c.valid-ok.ensures ∙ not-true c.valid-ok.result c.if-not-ok.true-raw) refl
 
-returns-2 : tie.Need-returns-2
+returns-2 : tie.Need-returns-then-bad
 unfolding report_input
-returns-2 c = rw (valid c.before.before, sym c.before.state-bad.ensures ∙ c.if2.true) refl
+returns-2 c = rw (valid c.before.before, sym c.state_bad-bad.ensures ∙ c.if-bad.true) refl
 
-returns-3 : tie.Need-returns-3
+returns-3 : tie.Need-returns-then-state-eq-STATE_BYTES
 unfolding report_input
-returns-3 c = rw (valid c.before.before.before, sym c.before.before.state-bad.ensures ∙ c.before.if2.false, eq-eqb _ _ c.if3.true) refl
+returns-3 c = rw (valid c.before.before.before, sym c.state_bad-bad.ensures ∙ c.if-bad.false, eq-eqb _ _ c.if-state-eq-STATE_BYTES.true) refl
 
-returns-4 : tie.Need-returns-4
+returns-4 : tie.Need-returns-else-state-eq-STATE_BYTES
 unfolding report_input
-returns-4 c = rw (valid c.before.before.before, sym c.before.before.state-bad.ensures ∙ c.before.if2.false, ne_eqb _ _ c.if3.false) refl
+returns-4 c = rw (valid c.before.before.before, sym c.state_bad-bad.ensures ∙ c.if-bad.false, ne_eqb _ _ c.if-state-eq-STATE_BYTES.false) refl
 
-pub report-refusal-spec : {M : Type 1} → statement M
-report-refusal-spec =
+pub report_refusal_spec : {M : Type 1} → statement M
+report_refusal_spec =
     tie.close
     (tie.spec (λ c κs. search rules) returns (λ c κs. valid_if_test _ (valid c)) returns-2 returns-3 returns-4)

@@ -7,5 +7,5 @@ returns : tie.Need-returns
 unfolding segment_of
 returns c = refl
 
-pub segment-spec : {M : Type 1} → statement M
-segment-spec = tie.close (tie.spec returns)
+pub segment_spec : {M : Type 1} → statement M
+segment_spec = tie.close (tie.spec returns)

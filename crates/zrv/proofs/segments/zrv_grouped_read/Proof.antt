@@ -8,8 +8,8 @@ returns : tie.Need-returns
 returns c =
     let f = c.before.before.before.before in
     let n = f.before.before.before in
-    ap₂ answered f.read-grouped.ensures.0 f.read-grouped.ensures.1 ∙ rw (n.named-drives.ensures, n.before.segment.ensures) refl
+    ap₂ answered f.read_grouped-number.ensures.0 f.read_grouped-number.ensures.1 ∙ rw (n.named_drives-here.ensures, n.segment-s.ensures) refl
 
-pub zrv-grouped-read-spec : {M : Type 1} → statement M
-zrv-grouped-read-spec =
+pub zrv_grouped_read_spec : {M : Type 1} → statement M
+zrv_grouped_read_spec =
     tie.close (tie.spec (λ c κs. search rules) (λ c κs. search rules) (λ c κs. search rules) (λ c. search rules) (λ c. search rules) (λ c. search rules) returns)

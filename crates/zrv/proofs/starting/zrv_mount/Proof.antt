@@ -9,45 +9,45 @@ use Rattle.zrv.proofs.starting.zrv_mount.Statement.{statement}
 use Rattle.zrv.proofs.starting.zrv_mount.Tie as tie
 
 -- nothing is refused
-zero : (c : tie.Else1) → c.before.sizes-refusal.result ≡ 0
+zero : (c : tie.Else-refusal-ne0) → c.sizes_refusal-refusal.result ≡ 0
 zero c = omega arith
 
 -- the ranges have the lengths of the geometry
-lengths : (c : tie.Else1) → let a = c.before.before.before.before.before.before.before.args in Sized c.before.before.shape.result (length a.state.now) (length a.written.now) (length a.durable.now)
-lengths c = sizes_passed _ _ _ _ (sym c.before.sizes-refusal.ensures ∙ zero c)
+lengths : (c : tie.Else-refusal-ne0) → let a = c.args in Sized c.shape-g.result (length a.state.now) (length a.written.now) (length a.durable.now)
+lengths c = sizes_passed _ _ _ _ (sym c.sizes_refusal-refusal.ensures ∙ zero c)
 
-table-to-requires : tie.Need-table-to-requires
+table-to-requires : tie.Need-table_to-requires
 table-to-requires c κs =
     let f = c.before.before.before.before.before.before.before.before in
     let d = f.before.before.before.before.before.before.before.before in
-    let n = d.before.before.before.before.before.before.before.before.before.table-cells.ensures in
-    omega (arith, (lengths d.before.before.before.before.before.before.before.before.before.before).written_long, n, part_long _ n.1, f.mount.auto, d.tables-from.auto)
+    let n = d.table_cells-n.ensures in
+    omega (arith, (lengths d.before.before.before.before.before.before.before).written_long, n, part_long _ n.1, c.mount-outcome.auto, c.tables_from.auto)
 
-table-to-requires-2 : tie.Need-table-to-requires-2
+table-to-requires-2 : tie.Need-table_to-requires-2
 table-to-requires-2 c κs =
     let f = c.before.before.before.before.before.before.before.before.before.before.before.before.before.before in
     let d = f.before.before.before.before.before.before.before.before in
-    let n = d.before.before.before.before.before.before.before.before.before.table-cells.ensures in
-    omega (arith, (lengths d.before.before.before.before.before.before.before.before.before.before).durable_long, n, part_long _ n.1, f.mount.auto, d.tables-from.auto)
+    let n = d.table_cells-n.ensures in
+    omega (arith, (lengths d.before.before.before.before.before.before).durable_long, n, part_long _ n.1, c.mount-outcome.auto, c.tables_from.auto)
 
-hand-back-placed-requires : tie.Need-hand-back-placed-requires
-hand-back-placed-requires c κs = let k = lengths c.before.before.before.before.before.before.before.before.before.before.before.before.before.before.before.before.before.before.before.before.before.before.before.before.before.before.before.before.before.before.before.before.before.before.before.before.before in (k.valid, k.state_long)
+hand-back-placed-requires : tie.Need-hand_back_placed-requires
+hand-back-placed-requires c κs = let k = lengths c.before.before.before.before.before.before.before.before.before.before.before.before.before.before.before.before.before.before.before.before.before.before.before.before.before.before.before.before.before.before.before.before.before in (k.valid, k.state_long)
 
-returns : tie.Need-returns
-returns c = rw (← c.before.before.shape.ensures, ← c.before.sizes-refusal.ensures) (refused _ _ _ c.if1.true)
+returns : tie.Need-returns-then-refusal-ne0
+returns c = rw (← c.shape-g.ensures, ← c.sizes_refusal-refusal.ensures) (refused _ _ _ c.if-refusal-ne0.true)
 
-returns-2 : tie.Need-returns-2
+returns-2 : tie.Need-returns
 returns-2 c =
     let f = c.before.before.before.before.before.before.before.before.before.before.before.before.before.before.before.before.before.before.before.before.before.before in
     let d = f.before.before.before.before.before.before.before.before in
-    let e = d.before.before.before.before.before.before.before.before.before.before in
-    let a = e.before.before.before.before.before.before.before.args in
+    let e = d.before.before.before.before.before.before in
+    let a = e.args in
     let m = ranges a.sectors.now a.written.now a.durable.now a.state.now in
-    let r = rw (d.before.before.before.before.before.before.before.before.named-drives.ensures, d.before.before.before.before.before.before.before.unread-state.ensures, d.tables-from.ensures.0, d.tables-from.ensures.1) at f.mount.ensures in
-    let h = c.before.before.hand-back-placed.ensures in
-    rw (← e.before.before.shape.ensures, ← e.before.sizes-refusal.ensures) (placed (ap (λ (o : Outcome). o.answer) r.0) (all_stored _ m _ r (refl, h.1) c.before.before.before.before.before.before.before.before.before.before.before.before.before.table_to.ensures c.before.before.before.before.before.before.before.table-to2.ensures) h.0 ∙ made _ _ _ (zero e))
+    let r = rw (d.named_drives-here.ensures, d.unread_state-old.ensures, c.tables_from.ensures.0, c.tables_from.ensures.1) at c.mount-outcome.ensures in
+    let h = c.hand_back_placed.ensures in
+    rw (← e.shape-g.ensures, ← e.sizes_refusal-refusal.ensures) (placed (ap (λ (o : Outcome). o.answer) r.0) (all_stored _ m _ r (refl, h.1) c.table_to.ensures c.table_to-2.ensures) h.0 ∙ made _ _ _ (zero e))
 
-pub zrv-mount-spec : {M : Type 1} → statement M
-zrv-mount-spec =
+pub zrv_mount_spec : {M : Type 1} → statement M
+zrv_mount_spec =
     tie.close
-    (tie.spec (λ c κs. search rules) (λ c κs. search rules) returns (λ c κs. (lengths c).valid) (λ c κs. search rules) (λ c κs. search rules) (λ c. search rules) (λ c. sym (part_long _ c.before.before.before.table-cells.ensures.1)) (λ c. search rules) (λ c. sym (part_long _ c.before.before.before.before.table-cells.ensures.1)) (λ c κs. scratch_fits _ _ (lengths c.before.before.before.before.before.before.before.before.before) c.before.before.before.before.before.before.before.before.table-cells.ensures) (λ c κs. search rules) table-to-requires table-to-requires-2 hand-back-placed-requires (λ c. search rules) (λ c. search rules) (λ c. search rules) (λ c. search rules) returns-2)
+    (tie.spec (λ c κs. search rules) (λ c κs. search rules) returns (λ c κs. (lengths c).valid) (λ c κs. search rules) (λ c κs. search rules) (λ c. search rules) (λ c. sym (part_long _ c.table_cells-n.ensures.1)) (λ c. search rules) (λ c. sym (part_long _ c.table_cells-n.ensures.1)) (λ c κs. scratch_fits _ _ (lengths c.before.before.before.before.before.before.before) c.table_cells-n.ensures) (λ c κs. search rules) table-to-requires table-to-requires-2 hand-back-placed-requires (λ c. search rules) (λ c. search rules) (λ c. search rules) (λ c. search rules) returns-2)

@@ -10,12 +10,12 @@ use Rattle.zrv.proofs.state.put_parts.Tie as tie
 
 returns : tie.Need-returns
 returns c =
-    let a = c.before.before.before.before.before.before.before.before.before.before.before.before.before.args in
+    let a = c.args in
     let r = c.before.before.before.before.before.before in
-    c.before.before.write-u32.ensures
-    ∙ ap (λ (l : List ℕ). write_le 4 l (264 + a.i * 4) a.share) (r.record-to.ensures ∙ ap (λ (l : List ℕ). overlay l (8 + 16 * a.z) (record_to a.r)) r.before.before.before.before.write-u64.ensures)
+    c.write_u32.ensures
+    ∙ ap (λ (l : List ℕ). write_le 4 l (264 + a.i * 4) a.share) (r.record_to.ensures ∙ ap (λ (l : List ℕ). overlay l (8 + 16 * a.z) (record_to a.r)) r.write_u64.ensures)
 
-pub put-parts-spec : {M : Type 1} → statement M
-put-parts-spec =
+pub put_parts_spec : {M : Type 1} → statement M
+put_parts_spec =
     tie.close
     (tie.spec (λ c κs. search rules) (λ c. search rules) (λ c. search rules) (λ c κs. search rules) (λ c. search rules) (λ c. search rules) (λ c κs. search rules) (λ c. search rules) returns)

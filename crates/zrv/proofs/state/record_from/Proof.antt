@@ -7,5 +7,5 @@ returns : tie.Need-returns
 unfolding record_from
 returns c = cc
 
-pub record-from-spec : {M : Type 1} → statement M
-record-from-spec = tie.close (tie.spec (λ c κs. search rules) (λ c. search rules) (λ c κs. search rules) (λ c. search rules) (λ c κs. search rules) (λ c κs. search rules) returns)
+pub record_from_spec : {M : Type 1} → statement M
+record_from_spec = tie.close (tie.spec (λ c κs. search rules) (λ c. search rules) (λ c κs. search rules) (λ c. search rules) (λ c κs. search rules) (λ c κs. search rules) returns)

@@ -8,11 +8,11 @@ returns : tie.Need-returns
 returns c =
     let s = c.before.before.before.before.before.before in
     let a = s.args in
-    rw (c.zeros-between2.ensures, c.before.zeros-between.ensures, c.before.before.records-fit.ensures, c.before.before.before.read_u64.ensures, c.before.before.before.before.zone-sectors.ensures.0)
-    (state_test a.g a.bytes.now s.requires.0 (λ i. (c.before.before.before.before.before.shared-slice-known.given i).fits) s.requires.1)
+    rw (c.zeros_between-none.ensures, c.zeros_between-past.ensures, c.records_fit-records.ensures, c.read_u64-lost.ensures, c.zone_sectors-most.ensures.0)
+    (state_test a.g a.bytes.now s.requires.0 (λ i. (c.shared_slice_known-1.given i).fits) s.requires.1)
 
-pub state-fits-spec : {M : Type 1} → statement M
-state-fits-spec =
+pub state_fits_spec : {M : Type 1} → statement M
+state_fits_spec =
     tie.close
     (tie.spec (λ c. search rules) (λ c κs. search rules) (λ c κs. search rules) (λ c κs. search rules) (λ c. search rules) (λ c. search rules) (λ c κs. search rules)
     (λ c. search rules) (λ c. search rules) (λ c κs. search rules) returns)

@@ -12,29 +12,29 @@ use Rattle.zrv.specs.laws.Bytes.{fill_slice, filled}
 use Rattle.zrv.proofs.words.table_from.Statement.{statement}
 use Rattle.zrv.proofs.words.table_from.Tie as tie
 
-abbrev invariant-loop : tie.invariant-loop
+abbrev invariant-loop : tie.invariant-loop-i
 invariant-loop bytes table₀ n i₀ table i = (i ≤ length table₀) × (length table ≡ length table₀) × (table ≡ tabulate (λ (j : ℕ). read_le 4 bytes (j * 4)) i ++ drop i table₀)
 
-abbrev decreases-loop : tie.decreases-loop
+abbrev decreases-loop : tie.decreases-loop-i
 decreases-loop bytes table₀ n i₀ table i = length table₀ - i
 
-loop-again : tie.Need-loop-preserved invariant-loop decreases-loop
+loop-again : tie.Need-loop-i-preserved invariant-loop decreases-loop
 loop-again c =
-    let l = c.before.before.loop in
-    let a = c.before.before.before.before.before.args in
+    let l = c.loop-i in
+    let a = c.args in
     let h : l.i < length a.table.now = omega arith in
     (omega arith, simp length-set l.invariant.1, rw (l.invariant.2, c.read_u32.ensures, add-one) (fill_slice (λ (j : ℕ). read_le 4 a.bytes.now (j * 4)) a.table.now l.i h))
 
 returns : tie.Need-returns invariant-loop decreases-loop
 unfolding table_from
 returns c =
-    let l = c.before.loop in
-    let a = c.before.before.before.before.args in
+    let l = c.loop-i in
+    let a = c.args in
     let e : l.i ≡ length a.table.now = omega arith in
     l.invariant.2 ∙ filled (tabulate (λ (j : ℕ). read_le 4 a.bytes.now (j * 4)) l.i) a.table.now l.i e ∙ ap (tabulate (λ (j : ℕ). read_le 4 a.bytes.now (j * 4))) e
 
-pub table-from-spec : {M : Type 1} → statement M
-table-from-spec =
+pub table_from_spec : {M : Type 1} → statement M
+table_from_spec =
     tie.close
     (tie.spec invariant-loop decreases-loop (λ c. (omega arith, refl, refl)) (λ c. omega arith) (λ c κs. omega arith) (λ c. omega arith) (λ c. omega arith) (λ c. omega arith)
-    (λ c. omega arith) loop-again (λ c. c.before.loop.invariant.1) returns)
+    (λ c. omega arith) loop-again (λ c. c.loop-i.invariant.1) returns)

@@ -1,0 +1,12 @@
+pub mod calls
+pub mod content
+pub mod device
+pub mod emptying
+pub mod examples
+pub mod invariant
+pub mod isolation
+pub mod look
+pub mod mount
+pub mod roles
+pub mod shown
+pub mod tables

@@ -1,2 +1,0 @@
--- What proofs by hand share.
-pub mod Lent

@@ -123,14 +123,14 @@ abbrev gone-room : tie.After-copies_gone → tie.After-parity_room-room
 gone-room x = x.before.before.before.before.before.before
 
 -- as the code finds it
-abbrev goneOf : tie.Start → List ℕ → List ℕ → Bool
-goneOf s gs qs =
+abbrev gone_of : tie.Start → List ℕ → List ℕ → Bool
+gone_of s gs qs =
     let a = s.args in
     let v = read_device a.places.geometry a.sectors.now a.pointers.now in
     gone_for_copies a.places.geometry (is_set a.job.here) (in_force_of a.places.geometry (is_set a.job.here) v gs qs) v a.job.drive
 
-gone_at : (x : tie.After-copies_gone) → x.copies_gone.result ≡ goneOf (from-gone x) (generations_in (from-gone x).args.state) (points_in (from-gone x).args.state)
-gone_at x = x.copies_gone.ensures ∙ ap₂ (goneOf (from-gone x)) x.generations_of-generations.ensures x.points_of-points.ensures
+gone_at : (x : tie.After-copies_gone) → x.copies_gone.result ≡ gone_of (from-gone x) (generations_in (from-gone x).args.state) (points_in (from-gone x).args.state)
+gone_at x = x.copies_gone.ensures ∙ ap₂ (gone_of (from-gone x)) x.generations_of-generations.ensures x.points_of-points.ensures
 
 gone-is : (x : tie.After-copies_gone) → x.copies_gone.result ≡ gone_in (from-gone x).args.job (from-gone x).args.state (given (from-gone x))
 gone-is x =

@@ -25,10 +25,10 @@ use Rattle.logs.specs.code.Judge.{found}
 use Rattle.logs.specs.code.Steps.{step_from, step_of, Placed}
 use Rattle.tables.specs.meaning.Drives.{no_drive}
 
-pick-or : (a b : Bool) (x : ℕ) → pick b 1 (pick a 1 x) ≡ pick (a || b) 1 x
-pick-or true true x = refl
-pick-or true false x = refl
-pick-or false b x = refl
+pick_or : (a b : Bool) (x : ℕ) → pick b 1 (pick a 1 x) ≡ pick (a || b) 1 x
+pick_or true true x = refl
+pick_or true false x = refl
+pick_or false b x = refl
 
 -- an answer of 1 or 0 as a Bool
 pub told : (x : ℕ) (b : Bool) → x ≡ pick b 1 0 → eqb x 1 ≡ b
@@ -36,29 +36,29 @@ told x true e = ap (λ (y : ℕ). eqb y 1) e
 told x false e = ap (λ (y : ℕ). eqb y 1) e
 
 module _ (g : Geometry) where
-  pub lost-answer : (p x : ℕ) (hs : List Header) → answer g LastLost p x hs ≡ last_lost x hs
-  lost-answer p x [] = refl
-  lost-answer p x (label y a ∷ hs) = lost-answer (p + 1) y hs
-  lost-answer p x (counters cs ∷ hs) = lost-answer (p + 1) x hs
-  lost-answer p x (zone_reset z n ∷ hs) = lost-answer (p + 1) x hs
-  lost-answer p x (partial_parity z s f n ∷ hs) = lost-answer (p + suc (min f g.unit)) x hs
-  lost-answer p x (seal z q n ∷ hs) = lost-answer (p + 1) x hs
-  lost-answer p x (closing kind gen ∷ hs) = lost-answer (p + 1) x hs
+  pub lost_answer : (p x : ℕ) (hs : List Header) → answer g LastLost p x hs ≡ last_lost x hs
+  lost_answer p x [] = refl
+  lost_answer p x (label y a ∷ hs) = lost_answer (p + 1) y hs
+  lost_answer p x (counters cs ∷ hs) = lost_answer (p + 1) x hs
+  lost_answer p x (zone_reset z n ∷ hs) = lost_answer (p + 1) x hs
+  lost_answer p x (partial_parity z s f n ∷ hs) = lost_answer (p + suc (min f g.unit)) x hs
+  lost_answer p x (seal z q n ∷ hs) = lost_answer (p + 1) x hs
+  lost_answer p x (closing kind gen ∷ hs) = lost_answer (p + 1) x hs
 
-  pub counters-answer : (p x : ℕ) (hs : List Header) → answer g LastCounters p x hs ≡ last_place g is_counters p x hs
-  counters-answer p x [] = refl
-  counters-answer p x (label y a ∷ hs) = counters-answer (p + 1) x hs
-  counters-answer p x (counters cs ∷ hs) = counters-answer (p + 1) (p + 1) hs
-  counters-answer p x (zone_reset z n ∷ hs) = counters-answer (p + 1) x hs
-  counters-answer p x (partial_parity z s f n ∷ hs) = counters-answer (p + suc (min f g.unit)) x hs
-  counters-answer p x (seal z q n ∷ hs) = counters-answer (p + 1) x hs
-  counters-answer p x (closing kind gen ∷ hs) = counters-answer (p + 1) x hs
+  pub counters_answer : (p x : ℕ) (hs : List Header) → answer g LastCounters p x hs ≡ last_place g is_counters p x hs
+  counters_answer p x [] = refl
+  counters_answer p x (label y a ∷ hs) = counters_answer (p + 1) x hs
+  counters_answer p x (counters cs ∷ hs) = counters_answer (p + 1) (p + 1) hs
+  counters_answer p x (zone_reset z n ∷ hs) = counters_answer (p + 1) x hs
+  counters_answer p x (partial_parity z s f n ∷ hs) = counters_answer (p + suc (min f g.unit)) x hs
+  counters_answer p x (seal z q n ∷ hs) = counters_answer (p + 1) x hs
+  counters_answer p x (closing kind gen ∷ hs) = counters_answer (p + 1) x hs
 
   pub reset_answer : (z n p x : ℕ) (hs : List Header) → answer g (ResetOf z n) p x hs ≡ pick (any_of (is_reset z n) hs) 1 x
   reset_answer z n p x [] = refl
   reset_answer z n p x (label y a ∷ hs) = reset_answer z n (p + 1) x hs
   reset_answer z n p x (counters cs ∷ hs) = reset_answer z n (p + 1) x hs
-  reset_answer z n p x (zone_reset y m ∷ hs) = reset_answer z n (p + 1) (pick (eqb y z && eqb m n) 1 x) hs ∙ pick-or (eqb y z && eqb m n) (any_of (is_reset z n) hs) x
+  reset_answer z n p x (zone_reset y m ∷ hs) = reset_answer z n (p + 1) (pick (eqb y z && eqb m n) 1 x) hs ∙ pick_or (eqb y z && eqb m n) (any_of (is_reset z n) hs) x
   reset_answer z n p x (partial_parity y s f m ∷ hs) = reset_answer z n (p + suc (min f g.unit)) x hs
   reset_answer z n p x (seal y q m ∷ hs) = reset_answer z n (p + 1) x hs
   reset_answer z n p x (closing kind gen ∷ hs) = reset_answer z n (p + 1) x hs
@@ -69,86 +69,86 @@ module _ (g : Geometry) where
   seal_answer z n p x (counters cs ∷ hs) = seal_answer z n (p + 1) x hs
   seal_answer z n p x (zone_reset y m ∷ hs) = seal_answer z n (p + 1) x hs
   seal_answer z n p x (partial_parity y s f m ∷ hs) = seal_answer z n (p + suc (min f g.unit)) x hs
-  seal_answer z n p x (seal y q m ∷ hs) = seal_answer z n (p + 1) (pick (eqb y z && eqb m n) 1 x) hs ∙ pick-or (eqb y z && eqb m n) (any_of (is_seal z n) hs) x
+  seal_answer z n p x (seal y q m ∷ hs) = seal_answer z n (p + 1) (pick (eqb y z && eqb m n) 1 x) hs ∙ pick_or (eqb y z && eqb m n) (any_of (is_seal z n) hs) x
   seal_answer z n p x (closing kind gen ∷ hs) = seal_answer z n (p + 1) x hs
 
-  pub seal-at-answer : (z n v p x : ℕ) (hs : List Header) → answer g (SealAt z n v) p x hs ≡ pick (any_of (is_seal_at z n v) hs) 1 x
-  seal-at-answer z n v p x [] = refl
-  seal-at-answer z n v p x (label y a ∷ hs) = seal-at-answer z n v (p + 1) x hs
-  seal-at-answer z n v p x (counters cs ∷ hs) = seal-at-answer z n v (p + 1) x hs
-  seal-at-answer z n v p x (zone_reset y m ∷ hs) = seal-at-answer z n v (p + 1) x hs
-  seal-at-answer z n v p x (partial_parity y s f m ∷ hs) = seal-at-answer z n v (p + suc (min f g.unit)) x hs
-  seal-at-answer z n v p x (seal y q m ∷ hs) = seal-at-answer z n v (p + 1) (pick (eqb y z && (eqb m n && eqb q v)) 1 x) hs ∙ pick-or (eqb y z && (eqb m n && eqb q v)) (any_of (is_seal_at z n v) hs) x
-  seal-at-answer z n v p x (closing kind gen ∷ hs) = seal-at-answer z n v (p + 1) x hs
+  pub seal_at_answer : (z n v p x : ℕ) (hs : List Header) → answer g (SealAt z n v) p x hs ≡ pick (any_of (is_seal_at z n v) hs) 1 x
+  seal_at_answer z n v p x [] = refl
+  seal_at_answer z n v p x (label y a ∷ hs) = seal_at_answer z n v (p + 1) x hs
+  seal_at_answer z n v p x (counters cs ∷ hs) = seal_at_answer z n v (p + 1) x hs
+  seal_at_answer z n v p x (zone_reset y m ∷ hs) = seal_at_answer z n v (p + 1) x hs
+  seal_at_answer z n v p x (partial_parity y s f m ∷ hs) = seal_at_answer z n v (p + suc (min f g.unit)) x hs
+  seal_at_answer z n v p x (seal y q m ∷ hs) = seal_at_answer z n v (p + 1) (pick (eqb y z && (eqb m n && eqb q v)) 1 x) hs ∙ pick_or (eqb y z && (eqb m n && eqb q v)) (any_of (is_seal_at z n v) hs) x
+  seal_at_answer z n v p x (closing kind gen ∷ hs) = seal_at_answer z n v (p + 1) x hs
 
-  pub least-answer : (z n p x : ℕ) (hs : List Header) → answer g (LeastSeal z n) p x hs ≡ least_seal z n x hs
-  least-answer z n p x [] = refl
-  least-answer z n p x (label y a ∷ hs) = least-answer z n (p + 1) x hs
-  least-answer z n p x (counters cs ∷ hs) = least-answer z n (p + 1) x hs
-  least-answer z n p x (zone_reset y m ∷ hs) = least-answer z n (p + 1) x hs
-  least-answer z n p x (partial_parity y s f m ∷ hs) = least-answer z n (p + suc (min f g.unit)) x hs
-  least-answer z n p x (seal y q m ∷ hs) = least-answer z n (p + 1) (pick (eqb y z && eqb m n) (min x q) x) hs
-  least-answer z n p x (closing kind gen ∷ hs) = least-answer z n (p + 1) x hs
+  pub least_answer : (z n p x : ℕ) (hs : List Header) → answer g (LeastSeal z n) p x hs ≡ least_seal z n x hs
+  least_answer z n p x [] = refl
+  least_answer z n p x (label y a ∷ hs) = least_answer z n (p + 1) x hs
+  least_answer z n p x (counters cs ∷ hs) = least_answer z n (p + 1) x hs
+  least_answer z n p x (zone_reset y m ∷ hs) = least_answer z n (p + 1) x hs
+  least_answer z n p x (partial_parity y s f m ∷ hs) = least_answer z n (p + suc (min f g.unit)) x hs
+  least_answer z n p x (seal y q m ∷ hs) = least_answer z n (p + 1) (pick (eqb y z && eqb m n) (min x q) x) hs
+  least_answer z n p x (closing kind gen ∷ hs) = least_answer z n (p + 1) x hs
 
-  pub partial-answer : (z n low high p x : ℕ) (hs : List Header) → answer g (LastPartial z n low high) p x hs ≡ last_place g (ends_within g z n low high) p x hs
-  partial-answer z n low high p x [] = refl
-  partial-answer z n low high p x (label y a ∷ hs) = partial-answer z n low high (p + 1) x hs
-  partial-answer z n low high p x (counters cs ∷ hs) = partial-answer z n low high (p + 1) x hs
-  partial-answer z n low high p x (zone_reset y m ∷ hs) = partial-answer z n low high (p + 1) x hs
-  partial-answer z n low high p x (partial_parity y s f m ∷ hs) = partial-answer z n low high (p + suc (min f g.unit)) (pick (eqb y z && (eqb m n && (ltb low (s * stripe_sectors g + f) && leb (s * stripe_sectors g + f) high))) (p + 1) x) hs
-  partial-answer z n low high p x (seal y q m ∷ hs) = partial-answer z n low high (p + 1) x hs
-  partial-answer z n low high p x (closing kind gen ∷ hs) = partial-answer z n low high (p + 1) x hs
+  pub partial_answer : (z n low high p x : ℕ) (hs : List Header) → answer g (LastPartial z n low high) p x hs ≡ last_place g (ends_within g z n low high) p x hs
+  partial_answer z n low high p x [] = refl
+  partial_answer z n low high p x (label y a ∷ hs) = partial_answer z n low high (p + 1) x hs
+  partial_answer z n low high p x (counters cs ∷ hs) = partial_answer z n low high (p + 1) x hs
+  partial_answer z n low high p x (zone_reset y m ∷ hs) = partial_answer z n low high (p + 1) x hs
+  partial_answer z n low high p x (partial_parity y s f m ∷ hs) = partial_answer z n low high (p + suc (min f g.unit)) (pick (eqb y z && (eqb m n && (ltb low (s * stripe_sectors g + f) && leb (s * stripe_sectors g + f) high))) (p + 1) x) hs
+  partial_answer z n low high p x (seal y q m ∷ hs) = partial_answer z n low high (p + 1) x hs
+  partial_answer z n low high p x (closing kind gen ∷ hs) = partial_answer z n low high (p + 1) x hs
 
 -- ---- the last label names a drive, or none
 abbrev pub NamesDrive : Geometry → ℕ → Type 0
 NamesDrive g x = (x < g.drives) ⊎ (x ≡ no_drive)
 
-label-names : (g : Geometry) (d x a : ℕ) → fits_log g d false (label x a) ≡ true → NamesDrive g x
-label-names g d x a e = go (or_cases (ltb x g.drives) (eqb x no_drive) e)
+label_names : (g : Geometry) (d x a : ℕ) → fits_log g d false (label x a) ≡ true → NamesDrive g x
+label_names g d x a e = go (or_cases (ltb x g.drives) (eqb x no_drive) e)
   where
     go : (ltb x g.drives ≡ true) ⊎ ((ltb x g.drives ≡ false) × (eqb x no_drive ≡ true)) → NamesDrive g x
     go (inl k) = inl (ltb-true x g.drives k)
     go (inr k) = inr (eqb-true x no_drive k.1)
 
 module _ (g : Geometry) (d : ℕ) (ss : List (List ℕ)) where
-  lost-after : (h : Header) (hs : List Header) (x : ℕ) → fits_log g d false h ≡ true → NamesDrive g x → ((y : ℕ) → NamesDrive g y → NamesDrive g (last_lost y hs)) → NamesDrive g (last_lost x (h ∷ hs))
-  lost-after (label y a) hs x f n k = k y (label-names g d y a f)
-  lost-after (counters cs) hs x f n k = k x n
-  lost-after (zone_reset z m) hs x f n k = k x n
-  lost-after (partial_parity z s v m) hs x f n k = k x n
-  lost-after (seal z q m) hs x f n k = k x n
-  lost-after (closing kind gen) hs x f n k = k x n
+  lost_after : (h : Header) (hs : List Header) (x : ℕ) → fits_log g d false h ≡ true → NamesDrive g x → ((y : ℕ) → NamesDrive g y → NamesDrive g (last_lost y hs)) → NamesDrive g (last_lost x (h ∷ hs))
+  lost_after (label y a) hs x f n k = k y (label_names g d y a f)
+  lost_after (counters cs) hs x f n k = k x n
+  lost_after (zone_reset z m) hs x f n k = k x n
+  lost_after (partial_parity z s v m) hs x f n k = k x n
+  lost_after (seal z q m) hs x f n k = k x n
+  lost_after (closing kind gen) hs x f n k = k x n
 
-  lost-placed : (es : List Entry) (p x : ℕ) → Placed g d false ss p es → NamesDrive g x → NamesDrive g (last_lost x (map head_of es))
-  lost-placed [] p x l n = n
-  lost-placed (e ∷ es) p x l n = lost-after e.head (map head_of es) x (decode_legal g d false (get_or ss p []) e.head l.0.reads).1 n (λ y k. lost-placed es (p + suc (rows_of g e.head)) y l.1 k)
+  lost_placed : (es : List Entry) (p x : ℕ) → Placed g d false ss p es → NamesDrive g x → NamesDrive g (last_lost x (map head_of es))
+  lost_placed [] p x l n = n
+  lost_placed (e ∷ es) p x l n = lost_after e.head (map head_of es) x (decode_legal g d false (get_or ss p []) e.head l.0.reads).1 n (λ y k. lost_placed es (p + suc (rows_of g e.head)) y l.1 k)
 
   pub lost_names : NamesDrive g (last_lost no_drive (heads_of (walk_log g d false ss)))
-  lost_names = lost-placed (walk_log g d false ss).entries zero no_drive (walk_places g d false ss).placed (inr refl)
+  lost_names = lost_placed (walk_log g d false ss).entries zero no_drive (walk_places g d false ss).placed (inr refl)
 
 -- ---- the first entry
-abbrev stepFound : Step → Found
-stepFound (Left w) = Bad
-stepFound (Whole f q) = f
+abbrev step_found : Step → Found
+step_found (Left w) = Bad
+step_found (Whole f q) = f
 
-step-first : (g : Geometry) (p : ℕ) (es : List Entry) (end : WalkEnd) → stepFound (step_from g p es end) ≡ first_seen (map head_of es)
-step-first g p [] end = refl
-step-first g p (e ∷ es) end = refl
+step_first : (g : Geometry) (p : ℕ) (es : List Entry) (end : WalkEnd) → step_found (step_from g p es end) ≡ first_seen (map head_of es)
+step_first g p [] end = refl
+step_first g p (e ∷ es) end = refl
 
-pub first-left : (g : Geometry) (w : Walked) (end : WalkEnd) → step_of g zero w ≡ Left end → Bad ≡ first_seen (heads_of w)
-first-left g w end e = sym (ap stepFound e) ∙ step-first g zero w.entries (walk_end_of w)
+pub first_left : (g : Geometry) (w : Walked) (end : WalkEnd) → step_of g zero w ≡ Left end → Bad ≡ first_seen (heads_of w)
+first_left g w end e = sym (ap step_found e) ∙ step_first g zero w.entries (walk_end_of w)
 
-pub first-whole : (g : Geometry) (w : Walked) (f : Found) (q : ℕ) → step_of g zero w ≡ Whole f q → f ≡ first_seen (heads_of w)
-first-whole g w f q e = sym (ap stepFound e) ∙ step-first g zero w.entries (walk_end_of w)
+pub first_whole : (g : Geometry) (w : Walked) (f : Found) (q : ℕ) → step_of g zero w ≡ Whole f q → f ≡ first_seen (heads_of w)
+first_whole g w f q e = sym (ap step_found e) ∙ step_first g zero w.entries (walk_end_of w)
 
-pub labelled-seen : (hs : List Header) → label_seen (first_seen hs) ≡ labelled hs
-labelled-seen [] = refl
-labelled-seen (label x a ∷ hs) = refl
-labelled-seen (counters cs ∷ hs) = refl
-labelled-seen (zone_reset z n ∷ hs) = refl
-labelled-seen (partial_parity z s f n ∷ hs) = refl
-labelled-seen (seal z p n ∷ hs) = refl
-labelled-seen (closing kind gen ∷ hs) = refl
+pub labelled_seen : (hs : List Header) → label_seen (first_seen hs) ≡ labelled hs
+labelled_seen [] = refl
+labelled_seen (label x a ∷ hs) = refl
+labelled_seen (counters cs ∷ hs) = refl
+labelled_seen (zone_reset z n ∷ hs) = refl
+labelled_seen (partial_parity z s f n ∷ hs) = refl
+labelled_seen (seal z p n ∷ hs) = refl
+labelled_seen (closing kind gen ∷ hs) = refl
 
 pub array_seen_lem : (hs : List Header) → array_seen (first_seen hs) ≡ array_in hs
 array_seen_lem [] = refl
@@ -160,12 +160,12 @@ array_seen_lem (seal z p n ∷ hs) = refl
 array_seen_lem (closing kind gen ∷ hs) = refl
 
 -- ---- the torn entry
-pub torn-none : (l : Ending) (x : ℕ) → walk_end_at l x ≢ Torn x → Bad ≡ torn_seen l
-torn-none at_pointer x h = refl
-torn-none (no_entry f) x h = refl
-torn-none (torn hd rs) x h = absurd (h refl)
+pub torn_none : (l : Ending) (x : ℕ) → walk_end_at l x ≢ Torn x → Bad ≡ torn_seen l
+torn_none at_pointer x h = refl
+torn_none (no_entry f) x h = refl
+torn_none (torn hd rs) x h = absurd (h refl)
 
-pub torn-found : (g : Geometry) (d : ℕ) (par : Bool) (ss : List (List ℕ)) (l : Ending) (x p : ℕ) → EndsAt g d par ss l x → walk_end_at l x ≡ Torn p → (p < length ss) × (found (decode g d par (get_or ss p [])) ≡ torn_seen l)
-torn-found g d par ss at_pointer x p e h = absurd (let z : ◌≡◌ {A = ℕ} 0 1 = cc in omega arith)
-torn-found g d par ss (no_entry f) x p e h = absurd (let z : ◌≡◌ {A = ℕ} 0 1 = cc in omega arith)
-torn-found g d par ss (torn hd rs) x p e h = let q : x ≡ p = cc in (rw q at e.0, rw q at (ap found e.1))
+pub torn_found : (g : Geometry) (d : ℕ) (par : Bool) (ss : List (List ℕ)) (l : Ending) (x p : ℕ) → EndsAt g d par ss l x → walk_end_at l x ≡ Torn p → (p < length ss) × (found (decode g d par (get_or ss p [])) ≡ torn_seen l)
+torn_found g d par ss at_pointer x p e h = absurd (let z : ◌≡◌ {A = ℕ} 0 1 = cc in omega arith)
+torn_found g d par ss (no_entry f) x p e h = absurd (let z : ◌≡◌ {A = ℕ} 0 1 = cc in omega arith)
+torn_found g d par ss (torn hd rs) x p e h = let q : x ≡ p = cc in (rw q at e.0, rw q at (ap found e.1))

@@ -26,16 +26,16 @@ walk-holds c = (omega arith, refl)
 next-entry-requires : tie.Need-next_entry-step-requires invariant-walk decreases-walk
 next-entry-requires c κs = let s = c.before.before in (s.requires.0, (s.requires.1, c.walk.invariant.0))
 
-abbrev sectorsOf : tie.At-walk invariant-walk decreases-walk → List (List ℕ)
-sectorsOf w =
+abbrev sectors_of : tie.At-walk invariant-walk decreases-walk → List (List ℕ)
+sectors_of w =
     let s = w.before.before in
     log_sectors s.args.g s.args.log.drive s.args.log.zone s.args.sectors.now s.args.log.written
 
-low : (w : tie.At-walk invariant-walk decreases-walk) → w.walk.p ≤ length (sectorsOf w)
+low : (w : tie.At-walk invariant-walk decreases-walk) → w.walk.p ≤ length (sectors_of w)
 low w = rw length_tabulate w.walk.invariant.0
 
 -- a whole entry was found
-whole : (k : tie.In-Whole invariant-walk decreases-walk) → step_of k.args.g k.before.before.walk.p (left_at k.args.g k.args.log.drive k.args.parity (sectorsOf k.before.before) k.before.before.walk.p) ≡ Whole k.in-Whole.f k.in-Whole.q
+whole : (k : tie.In-Whole invariant-walk decreases-walk) → step_of k.args.g k.before.before.walk.p (left_at k.args.g k.args.log.drive k.args.parity (sectors_of k.before.before) k.before.before.walk.p) ≡ Whole k.in-Whole.f k.in-Whole.q
 whole k = sym k.next_entry-step.ensures ∙ k.in-Whole.is
 
 climbs : (k : tie.In-Whole invariant-walk decreases-walk) → (k.before.before.walk.p < k.in-Whole.q) × (k.in-Whole.q ≤ k.args.log.written)
@@ -52,7 +52,7 @@ after-found-requires c κs =
       s.requires.0,
       (
         omega (arith, (climbs c).0, (climbs c).1, s.requires.1.short, s.requires.0.zone_most),
-        whole_small a.g a.log.drive a.parity (sectorsOf w) a.query w.walk.p w.walk.x (low w) c.in-Whole.f c.in-Whole.q (whole c),
+        whole_small a.g a.log.drive a.parity (sectors_of w) a.query w.walk.p w.walk.x (low w) c.in-Whole.f c.in-Whole.q (whole c),
       ),
     )
 
@@ -64,14 +64,14 @@ walk-again c =
     let w = c.before.before.before in
     let a = w.args in (
       (climbs c.before).1,
-      rw c.after_found-x.ensures (sym (answer_whole a.g a.log.drive a.parity (sectorsOf w) a.query w.walk.p w.walk.x (low w) c.in-Whole.f c.in-Whole.q (whole c.before)) ∙ w.walk.invariant.1),
+      rw c.after_found-x.ensures (sym (answer_whole a.g a.log.drive a.parity (sectors_of w) a.query w.walk.p w.walk.x (low w) c.in-Whole.f c.in-Whole.q (whole c.before)) ∙ w.walk.invariant.1),
     )
 
 returns : tie.Need-returns invariant-walk decreases-walk
 returns c =
     let w = c.before.before in
     let a = w.args in
-    sym (answer_left a.g a.log.drive a.parity (sectorsOf w) a.query w.walk.p w.walk.x (low w) c.in-Left.field-0 (sym c.next_entry-step.ensures ∙ c.in-Left.is)) ∙ w.walk.invariant.1
+    sym (answer_left a.g a.log.drive a.parity (sectors_of w) a.query w.walk.p w.walk.x (low w) c.in-Left.field-0 (sym c.next_entry-step.ensures ∙ c.in-Left.is)) ∙ w.walk.invariant.1
 
 pub ask_log_spec : {M : Type 1} → statement M
 ask_log_spec =

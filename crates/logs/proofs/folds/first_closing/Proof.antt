@@ -19,14 +19,14 @@ invariant-walk sectors g log par p₀ p = (p ≤ log.written) × (first_closing 
 abbrev decreases-walk : tie.decreases-walk
 decreases-walk sectors g log par p₀ p = log.written - p
 
-abbrev sectorsOf : tie.At-walk invariant-walk decreases-walk → List (List ℕ)
-sectorsOf w = let a = w.args in sectors_of_log a.g a.log a.sectors.now
+abbrev sectors_of : tie.At-walk invariant-walk decreases-walk → List (List ℕ)
+sectors_of w = let a = w.args in sectors_of_log a.g a.log a.sectors.now
 
 abbrev turn : tie.In-Whole invariant-walk decreases-walk → tie.At-walk invariant-walk decreases-walk
 turn k = k.before.before
 
 -- a whole entry was found
-whole : (k : tie.In-Whole invariant-walk decreases-walk) → step_of (turn k).args.g (turn k).walk.p (left_at (turn k).args.g (turn k).args.log.drive (turn k).args.parity (sectorsOf (turn k)) (turn k).walk.p) ≡ Whole k.in-Whole.f k.in-Whole.q
+whole : (k : tie.In-Whole invariant-walk decreases-walk) → step_of (turn k).args.g (turn k).walk.p (left_at (turn k).args.g (turn k).args.log.drive (turn k).args.parity (sectors_of (turn k)) (turn k).walk.p) ≡ Whole k.in-Whole.f k.in-Whole.q
 whole k = sym k.next_entry-step.ensures ∙ k.in-Whole.is
 
 climbs : (k : tie.In-Whole invariant-walk decreases-walk) → ((turn k).walk.p < k.in-Whole.q) × (k.in-Whole.q ≤ (turn k).args.log.written)
@@ -43,13 +43,13 @@ walk-again c =
     let k = c.before.before in
     let w = turn k in
     let a = w.args in
-    ((climbs k).1, sym (closing_on a.g a.log.drive a.parity (sectorsOf w) w.walk.p (low_in_log a.g a.log a.sectors.now w.walk.p w.walk.invariant.0) k.in-Whole.f k.in-Whole.q (whole k) (sym c.closing_of-generation.ensures ∙ c.if-generation-ne0.false)) ∙ w.walk.invariant.1)
+    ((climbs k).1, sym (closing_on a.g a.log.drive a.parity (sectors_of w) w.walk.p (low_in_log a.g a.log a.sectors.now w.walk.p w.walk.invariant.0) k.in-Whole.f k.in-Whole.q (whole k) (sym c.closing_of-generation.ensures ∙ c.if-generation-ne0.false)) ∙ w.walk.invariant.1)
 
 returns : tie.Need-returns-in-Left invariant-walk decreases-walk
 returns c =
     let w = c.before.before in
     let a = w.args in
-    sym (closing_left a.g a.log.drive a.parity (sectorsOf w) w.walk.p (low_in_log a.g a.log a.sectors.now w.walk.p w.walk.invariant.0) c.in-Left.field-0 (sym c.next_entry-step.ensures ∙ c.in-Left.is)) ∙ w.walk.invariant.1
+    sym (closing_left a.g a.log.drive a.parity (sectors_of w) w.walk.p (low_in_log a.g a.log a.sectors.now w.walk.p w.walk.invariant.0) c.in-Left.field-0 (sym c.next_entry-step.ensures ∙ c.in-Left.is)) ∙ w.walk.invariant.1
 
 returns-2 : tie.Need-returns-then-generation-ne0 invariant-walk decreases-walk
 returns-2 c =
@@ -57,7 +57,7 @@ returns-2 c =
     let w = turn k in
     let a = w.args in
     let e = c.closing_of-generation.ensures in
-    e ∙ sym (closing_here a.g a.log.drive a.parity (sectorsOf w) w.walk.p (low_in_log a.g a.log a.sectors.now w.walk.p w.walk.invariant.0) k.in-Whole.f k.in-Whole.q (whole k) (λ q. c.if-generation-ne0.true (e ∙ q))) ∙ w.walk.invariant.1
+    e ∙ sym (closing_here a.g a.log.drive a.parity (sectors_of w) w.walk.p (low_in_log a.g a.log a.sectors.now w.walk.p w.walk.invariant.0) k.in-Whole.f k.in-Whole.q (whole k) (λ q. c.if-generation-ne0.true (e ∙ q))) ∙ w.walk.invariant.1
 
 pub first_closing_spec : {M : Type 1} → statement M
 first_closing_spec =

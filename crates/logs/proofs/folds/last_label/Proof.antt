@@ -21,14 +21,14 @@ invariant-walk sectors g log last₀ p₀ last p =
 abbrev decreases-walk : tie.decreases-walk
 decreases-walk sectors g log last₀ p₀ last p = log.written - p
 
-abbrev sectorsOf : tie.At-walk invariant-walk decreases-walk → List (List ℕ)
-sectorsOf w = let a = w.args in sectors_of_log a.g a.log a.sectors.now
+abbrev sectors_of : tie.At-walk invariant-walk decreases-walk → List (List ℕ)
+sectors_of w = let a = w.args in sectors_of_log a.g a.log a.sectors.now
 
 abbrev turn : tie.In-Whole invariant-walk decreases-walk → tie.At-walk invariant-walk decreases-walk
 turn k = k.before.before
 
 -- a whole entry was found
-whole : (k : tie.In-Whole invariant-walk decreases-walk) → step_of (turn k).args.g (turn k).walk.p (left_at (turn k).args.g (turn k).args.log.drive false (sectorsOf (turn k)) (turn k).walk.p) ≡ Whole k.in-Whole.f k.in-Whole.q
+whole : (k : tie.In-Whole invariant-walk decreases-walk) → step_of (turn k).args.g (turn k).walk.p (left_at (turn k).args.g (turn k).args.log.drive false (sectors_of (turn k)) (turn k).walk.p) ≡ Whole k.in-Whole.f k.in-Whole.q
 whole k = sym k.next_entry-step.ensures ∙ k.in-Whole.is
 
 climbs : (k : tie.In-Whole invariant-walk decreases-walk) → ((turn k).walk.p < k.in-Whole.q) × (k.in-Whole.q ≤ (turn k).args.log.written)
@@ -45,13 +45,13 @@ walk-again c =
     let k = c.before in
     let w = turn k in
     let a = w.args in
-    ((climbs k).1, rw c.later_label-last.ensures (sym (label_on a.g a.log.drive false (sectorsOf w) w.walk.p (low_in_log a.g a.log a.sectors.now w.walk.p w.walk.invariant.0) w.walk.last k.in-Whole.f k.in-Whole.q (whole k)) ∙ w.walk.invariant.1))
+    ((climbs k).1, rw c.later_label-last.ensures (sym (label_on a.g a.log.drive false (sectors_of w) w.walk.p (low_in_log a.g a.log a.sectors.now w.walk.p w.walk.invariant.0) w.walk.last k.in-Whole.f k.in-Whole.q (whole k)) ∙ w.walk.invariant.1))
 
 returns : tie.Need-returns invariant-walk decreases-walk
 returns c =
     let w = c.before.before in
     let a = w.args in
-    sym (label_left a.g a.log.drive false (sectorsOf w) w.walk.p (low_in_log a.g a.log a.sectors.now w.walk.p w.walk.invariant.0) w.walk.last c.in-Left.field-0 (sym c.next_entry-step.ensures ∙ c.in-Left.is)) ∙ w.walk.invariant.1
+    sym (label_left a.g a.log.drive false (sectors_of w) w.walk.p (low_in_log a.g a.log a.sectors.now w.walk.p w.walk.invariant.0) w.walk.last c.in-Left.field-0 (sym c.next_entry-step.ensures ∙ c.in-Left.is)) ∙ w.walk.invariant.1
 
 pub last_label_spec : {M : Type 1} → statement M
 last_label_spec =

@@ -10,7 +10,7 @@ use Rattle.logs.specs.code.Query.{torn_seen}
 use Rattle.logs.specs.meaning.Walk.{Walked, walk_log}
 use Rattle.logs.specs.code.WalkCode.{log_sectors}
 use mathlib.Core.Path.{◌≡◌, ◌∙◌, sym, ap}
-use Rattle.logs.specs.code.Answers.{torn-none, torn-found}
+use Rattle.logs.specs.code.Answers.{torn_none, torn_found}
 use Rattle.logs.specs.laws.Places.{walk_places}
 use Rattle.tables.specs.laws.Below.{length_tabulate}
 use native.Mathlib.Omega.{arith}
@@ -31,7 +31,7 @@ found_at s p = found (decode s.args.g s.args.log.drive s.args.parity (get_or (lo
 returns : tie.Need-returns-in_default
 returns c =
     let w = walked c.before.before.before in
-    torn-none w.last w.position (λ e. c.in_default.not-Torn w.position (c.walk_log-w.ensures.0 ∙ e))
+    torn_none w.last w.position (λ e. c.in_default.not-Torn w.position (c.walk_log-w.ensures.0 ∙ e))
 
 -- the sector where the walk is left, in the log, and what stands there
 torn-there : (c : tie.In-Torn) → (c.in-Torn.p < c.args.log.written)
@@ -40,7 +40,7 @@ torn-there c =
     let s = c.before.before.before in
     let a = s.args in
     let w = walked s in
-    let t = torn-found a.g a.log.drive a.parity (log s) w.last w.position c.in-Torn.p (walk_places a.g a.log.drive a.parity (log s)).left (sym c.walk_log-w.ensures.0 ∙ c.in-Torn.is) in
+    let t = torn_found a.g a.log.drive a.parity (log s) w.last w.position c.in-Torn.p (walk_places a.g a.log.drive a.parity (log s)).left (sym c.walk_log-w.ensures.0 ∙ c.in-Torn.is) in
     (rw length_tabulate at t.0, t.1)
 
 judge-at-requires : tie.Need-judge_at-requires

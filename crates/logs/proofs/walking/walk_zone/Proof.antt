@@ -24,8 +24,8 @@ invariant-walk bytes g drive par n c p₀ p = (p ≤ n) × (walk_end_of (left_at
 abbrev decreases-walk : tie.decreases-walk
 decreases-walk bytes g drive par n c p₀ p = n - p
 
-abbrev sectorsOf : tie.At-walk invariant-rows decreases-rows invariant-walk decreases-walk → List (List ℕ)
-sectorsOf w = sectors_in w.args.g.sector w.args.bytes.now w.args.written
+abbrev sectors_of : tie.At-walk invariant-rows decreases-rows invariant-walk decreases-walk → List (List ℕ)
+sectors_of w = sectors_in w.args.g.sector w.args.bytes.now w.args.written
 
 below : (c : tie.Else-written-p invariant-rows decreases-rows invariant-walk decreases-walk) → c.before.walk.p < c.args.written
 below c = omega arith
@@ -36,7 +36,7 @@ small c = let s = c.before.before.before in omega (arith, s.requires.1.short, s.
 judge-in-zone-requires : tie.Need-judge_in_zone-f-requires invariant-rows decreases-rows invariant-walk decreases-walk
 judge-in-zone-requires c κs = let s = c.before.before.before in (s.requires.0, (s.requires.1, below c))
 
-inside : (c : tie.After-judge_in_zone-f invariant-rows decreases-rows invariant-walk decreases-walk) → c.before.before.walk.p < length (sectorsOf c.before.before)
+inside : (c : tie.After-judge_in_zone-f invariant-rows decreases-rows invariant-walk decreases-walk) → c.before.before.walk.p < length (sectors_of c.before.before)
 inside c = rw length_tabulate (below c.before)
 
 rows-of-requires : tie.Need-rows_of-rows-requires invariant-rows decreases-rows invariant-walk decreases-walk
@@ -101,7 +101,7 @@ walk-again c =
     let a = w.args in
     let r = at-rows-of.rows_of-rows.ensures.0 in
     let whole : w.walk.p + 1 + at-rows-of.rows_of-rows.result ≤ a.written = omega arith in
-    let on = goes_on_lem a.g a.drive a.parity (sectorsOf w) w.walk.p j.judge_in_zone-f.result (inside j) j.judge_in_zone-f.ensures (sym at-is-bad.is_bad-bad.ensures ∙ c.if-bad.false) (rw (← r) (fits c.before.before)) (rw (← r, length_tabulate) whole) in
+    let on = goes_on_lem a.g a.drive a.parity (sectors_of w) w.walk.p j.judge_in_zone-f.result (inside j) j.judge_in_zone-f.ensures (sym at-is-bad.is_bad-bad.ensures ∙ c.if-bad.false) (rw (← r) (fits c.before.before)) (rw (← r, length_tabulate) whole) in
     (whole, rw r (sym on ∙ w.walk.invariant.1))
 
 returns : tie.Need-returns-then-written-p invariant-rows decreases-rows invariant-walk decreases-walk
@@ -109,7 +109,7 @@ returns c =
     let w = c.before in
     let a = w.args in
     let e : w.walk.p ≡ a.written = omega arith in
-    let t = at_end a.g a.drive a.parity (sectorsOf w) w.walk.p (rw length_tabulate e) in
+    let t = at_end a.g a.drive a.parity (sectors_of w) w.walk.p (rw length_tabulate e) in
     record { ends = sym (ap walk_end_of t) ∙ w.walk.invariant.1; within = w.walk.invariant.0 }
 
 returns-2 : tie.Need-returns-then-bad invariant-rows decreases-rows invariant-walk decreases-walk
@@ -117,7 +117,7 @@ returns-2 c =
     let j = c.before.before.before.before in
     let w = j.before.before in
     let a = w.args in
-    let t = stops_bad a.g a.drive a.parity (sectorsOf w) w.walk.p j.judge_in_zone-f.result (inside j) j.judge_in_zone-f.ensures (sym c.is_bad-bad.ensures ∙ c.if-bad.true) in
+    let t = stops_bad a.g a.drive a.parity (sectors_of w) w.walk.p j.judge_in_zone-f.result (inside j) j.judge_in_zone-f.ensures (sym c.is_bad-bad.ensures ∙ c.if-bad.true) in
     record { ends = ap (NoEntry w.walk.p) c.fault_in_zone-fault.ensures ∙ sym (ap walk_end_of t) ∙ w.walk.invariant.1; within = w.walk.invariant.0 }
 
 returns-3 : tie.Need-returns-then-c-p invariant-rows decreases-rows invariant-walk decreases-walk
@@ -125,7 +125,7 @@ returns-3 c =
     let j = c.before.before.before.before in
     let w = j.before.before in
     let a = w.args in
-    let t = stops_past a.g a.drive a.parity (sectorsOf w) w.walk.p j.judge_in_zone-f.result (inside j) j.judge_in_zone-f.ensures (sym c.is_bad-bad.ensures ∙ c.if-bad.false) (rw (← c.rows_of-rows.ensures.0) c.if-c-p.true) in
+    let t = stops_past a.g a.drive a.parity (sectors_of w) w.walk.p j.judge_in_zone-f.result (inside j) j.judge_in_zone-f.ensures (sym c.is_bad-bad.ensures ∙ c.if-bad.false) (rw (← c.rows_of-rows.ensures.0) c.if-c-p.true) in
     record { ends = sym (ap walk_end_of t) ∙ w.walk.invariant.1; within = w.walk.invariant.0 }
 
 returns-4 : tie.Need-returns-then-written-p-2 invariant-rows decreases-rows invariant-walk decreases-walk
@@ -138,7 +138,7 @@ returns-4 c =
     let a = w.args in
     let r = at-rows-of.rows_of-rows.ensures.0 in
     let short : a.written < w.walk.p + 1 + at-rows-of.rows_of-rows.result = omega arith in
-    let (h, t) = stops_torn a.g a.drive a.parity (sectorsOf w) w.walk.p j.judge_in_zone-f.result (inside j) j.judge_in_zone-f.ensures (sym at-is-bad.is_bad-bad.ensures ∙ at-if.if-bad.false) (rw (← r) (fits c.before.before.before)) (rw (← r, length_tabulate) short) in
+    let (h, t) = stops_torn a.g a.drive a.parity (sectors_of w) w.walk.p j.judge_in_zone-f.result (inside j) j.judge_in_zone-f.ensures (sym at-is-bad.is_bad-bad.ensures ∙ at-if.if-bad.false) (rw (← r) (fits c.before.before.before)) (rw (← r, length_tabulate) short) in
     record { ends = sym (ap walk_end_of t) ∙ w.walk.invariant.1; within = w.walk.invariant.0 }
 
 pub walk_zone_spec : {M : Type 1} → statement M

@@ -20,13 +20,13 @@ use Rattle.mounting.proofs.fill.fill_sectors.Statement.{statement}
 use Rattle.mounting.proofs.fill.fill_sectors.Tie as tie
 
 -- what lies at sector x of a drive
-abbrev sectorOn : Extent → List ℕ → List ℕ → ℕ → ℕ → List ℕ
-sectorOn known xs ps drive = content_at known.geometry.drives known.geometry.unit known.zone (values_in known xs ps) drive
+abbrev sector_on : Extent → List ℕ → List ℕ → ℕ → ℕ → List ℕ
+sector_on known xs ps drive = content_at known.geometry.drives known.geometry.unit known.zone (values_in known xs ps) drive
 
 abbrev invariant-loop : tie.invariant-loop-x
 invariant-loop sectors₀ written₀ pointers known target from to budget rest₀ x₀ sectors written rest x =
     (from ≤ x) × (x ≤ to) × (length sectors ≡ length sectors₀) × (length written ≡ length written₀)
-    × MadeAppends known.to budget rest (rows_if target.present target.drive target.zone (sectorOn known sectors₀ pointers target.drive) from x) sectors₀ written₀ sectors written
+    × MadeAppends known.to budget rest (rows_if target.present target.drive target.zone (sector_on known sectors₀ pointers target.drive) from x) sectors₀ written₀ sectors written
 
 abbrev decreases-loop : tie.decreases-loop-x
 decreases-loop sectors₀ written₀ pointers known target from to budget rest₀ x₀ sectors written rest x = to - x
@@ -36,7 +36,7 @@ loop-holds c =
     let s = c.before.before.before in
     let a = s.args in
     let t = a.target in
-    (omega arith, s.requires.1.1, refl, refl, rw (rows_none t.present t.drive t.zone (sectorOn a.known a.sectors.now a.pointers.now t.drive) a.from) (appends_nil a.known.to a.budget a.sectors.now a.written.now))
+    (omega arith, s.requires.1.1, refl, refl, rw (rows_none t.present t.drive t.zone (sector_on a.known a.sectors.now a.pointers.now t.drive) a.from) (appends_nil a.known.to a.budget a.sectors.now a.written.now))
 
 abbrev to_start : tie.At-loop-x invariant-loop decreases-loop → tie.Start invariant-loop decreases-loop
 to_start c = c.before.before.before.before
@@ -51,7 +51,7 @@ kept c =
     let l = c.loop-x in
     let k = a.known in
     let ready = s.requires.1.0 in
-    let F = sectorOn a.known a.sectors.now a.pointers.now t.drive in
+    let F = sector_on a.known a.sectors.now a.pointers.now t.drive in
     zone_kept a.known t a.sectors.now a.written.now a.pointers.now ready a.budget l.rest (rows_if t.present t.drive t.zone F a.from l.x) l.sectors l.written
     (rows_in k.geometry (λ y. eqb y t.zone) t.present t.drive t.zone F a.from l.x (ready.rows 0).drive_in (ready.rows 0).zone_in_lem (eqb_same t.zone)
     (λ p i h. content_long k.geometry k.here a.sectors.now a.pointers.now k.zone k.generation k.limit k.end t.drive i s.requires.0 ready.known_below (ready.rows 0).drive_in (omega (arith, h, l.invariant.1, s.requires.1.2))))
@@ -82,7 +82,7 @@ loop-again c =
     let a = (to_start at-loop).args in
     let t = a.target in
     let l = at-loop.loop-x in
-    let F = sectorOn a.known a.sectors.now a.pointers.now t.drive in (
+    let F = sector_on a.known a.sectors.now a.pointers.now t.drive in (
       omega (arith, l.invariant.0),
       omega (arith, at-loop-test.loop-x-test.true),
       f.auto.sectors ∙ l.invariant.2,

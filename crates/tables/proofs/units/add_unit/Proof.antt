@@ -10,17 +10,17 @@ use Rattle.tables.proofs.units.add_unit.Statement.{statement}
 use Rattle.tables.proofs.units.add_unit.Tie as tie
 
 -- the row, with the unit added
-abbrev rowAfter : List ℕ → ℕ → List ℕ → List ℕ
-rowAfter bytes row a = xor_bytes (take (length a) (drop row bytes)) a
+abbrev row_after : List ℕ → ℕ → List ℕ → List ℕ
+row_after bytes row a = xor_bytes (take (length a) (drop row bytes)) a
 
 abbrev invariant-loop : tie.invariant-loop-i
-invariant-loop bytes₀ to row a n i₀ bytes i = (n ≡ length a) × PartsLaid bytes₀ (length a) ((to, a) ∷ (row, rowAfter bytes₀ row a) ∷ []) i bytes
+invariant-loop bytes₀ to row a n i₀ bytes i = (n ≡ length a) × PartsLaid bytes₀ (length a) ((to, a) ∷ (row, row_after bytes₀ row a) ∷ []) i bytes
 
 abbrev decreases-loop : tie.decreases-loop-i
 decreases-loop bytes₀ to row a n i₀ bytes i = length a - i
 
 abbrev after : tie.Start invariant-loop decreases-loop → List ℕ
-after s = let a = s.args in rowAfter a.bytes.now a.row a.a.now
+after s = let a = s.args in row_after a.bytes.now a.row a.a.now
 
 abbrev parts : tie.Start invariant-loop decreases-loop → List (ℕ × List ℕ)
 parts s = let a = s.args in (a.to, a.a.now) ∷ (a.row, after s) ∷ []

@@ -23,8 +23,8 @@ zone-place-requires-2 c κs = let s = c.before.before.before.before.before in om
 abbrev place_in : tie.Start → ℕ → ℕ
 place_in s z = zone_place s.args.g s.args.drive z
 
-abbrev badIn : tie.Start → ℕ → Bool → BadPlace
-badIn s z par = bad_place_in s.args.drive (place_in s z) (walk_log s.args.g s.args.drive par (read_device s.args.g s.args.sectors.now s.args.written.now s.args.drive z).sectors)
+abbrev bad_in : tie.Start → ℕ → Bool → BadPlace
+bad_in s z par = bad_place_in s.args.drive (place_in s z) (walk_log s.args.g s.args.drive par (read_device s.args.g s.args.sectors.now s.args.written.now s.args.drive z).sectors)
 
 returns : tie.Need-returns-then-y-z
 unfolding drive_bad_place
@@ -36,7 +36,7 @@ returns c =
     let s = g.before.before.before in
     let h : y.zone_place-y.result < z.zone_place-z.result = c.if-y-z.true in
     let l : place_in s general_zone < place_in s parity_zone = rw (y.zone_place-y.ensures, z.zone_place-z.ensures) at h in
-    c.first_of.ensures ∙ ap₂ first_of g.log_place-general.ensures p.log_place-parity.ensures ∙ sym (lower_first_lem (place_in s general_zone) (place_in s parity_zone) (badIn s general_zone false) (badIn s parity_zone true) l)
+    c.first_of.ensures ∙ ap₂ first_of g.log_place-general.ensures p.log_place-parity.ensures ∙ sym (lower_first_lem (place_in s general_zone) (place_in s parity_zone) (bad_in s general_zone false) (bad_in s parity_zone true) l)
 
 returns-2 : tie.Need-returns
 unfolding drive_bad_place
@@ -48,7 +48,7 @@ returns-2 c =
     let s = g.before.before.before in
     let h : z.zone_place-z.result ≤ y.zone_place-y.result = c.if-y-z.false in
     let l : place_in s parity_zone ≤ place_in s general_zone = rw (y.zone_place-y.ensures, z.zone_place-z.ensures) at h in
-    c.first_of-2.ensures ∙ ap₂ first_of p.log_place-parity.ensures g.log_place-general.ensures ∙ sym (lower_second (place_in s general_zone) (place_in s parity_zone) (badIn s general_zone false) (badIn s parity_zone true) l)
+    c.first_of-2.ensures ∙ ap₂ first_of p.log_place-parity.ensures g.log_place-general.ensures ∙ sym (lower_second (place_in s general_zone) (place_in s parity_zone) (bad_in s general_zone false) (bad_in s parity_zone true) l)
 
 pub drive_place_spec : {M : Type 1} → statement M
 drive_place_spec =

@@ -45,14 +45,14 @@ zone-in : (f : tie.Else-zones-number) → let a = (to_start f.before.before.befo
 zone-in f = omega (arith, f.zone_of-number.ensures, f.if-zones-number.false)
 
 -- the zone that the code found
-abbrev zoneWith : ByRecord → List Bool → ℕ → Zone
-zoneWith by h z = record { geometry = by.geometry; here = h; number = z; generation = by.record.generation }
+abbrev zone_with : ByRecord → List Bool → ℕ → Zone
+zone_with by h z = record { geometry = by.geometry; here = h; number = z; generation = by.record.generation }
 
 abbrev from-offset : tie.After-offset_of-offset → tie.Start
 from-offset n = to_start n.before.before.before.before.before
 
-zone-is : (n : tie.After-offset_of-offset) → let a = (from-offset n).args in zoneWith a.by n.present_drives-here.result n.zone_of-number.result ≡ zone_by a.by.geometry a.by.named a.by.lost a.by.record a.address
-zone-is n = ap₂ (zoneWith (from-offset n).args.by) n.present_drives-here.ensures n.zone_of-number.ensures
+zone-is : (n : tie.After-offset_of-offset) → let a = (from-offset n).args in zone_with a.by n.present_drives-here.result n.zone_of-number.result ≡ zone_by a.by.geometry a.by.named a.by.lost a.by.record a.address
+zone-is n = ap₂ (zone_with (from-offset n).args.by) n.present_drives-here.ensures n.zone_of-number.ensures
 
 read-zone-requires : tie.Need-read_zone-requires
 read-zone-requires c κs =

@@ -46,19 +46,19 @@ abbrev from-offset : tie.After-offset_of-pointer → tie.Start
 from-offset n = to_start n.before.before.before
 
 -- the run as the code has it
-abbrev runWith : tie.Start → List Bool → ℕ → ℕ → Run
-runWith s h z n = let a = s.args in record { zone = record { geometry = a.by.geometry; here = h; number = z; generation = a.by.record.generation }; pointer = n; count = a.run; host = a.host; allowance = a.allowance }
+abbrev run_with : tie.Start → List Bool → ℕ → ℕ → Run
+run_with s h z n = let a = s.args in record { zone = record { geometry = a.by.geometry; here = h; number = z; generation = a.by.record.generation }; pointer = n; count = a.run; host = a.host; allowance = a.allowance }
 
-abbrev runNow : tie.After-offset_of-pointer → Run
-runNow n = runWith (from-offset n) n.present_drives-here.result n.zone_of-number.result n.offset_of-pointer.result
+abbrev run_now : tie.After-offset_of-pointer → Run
+run_now n = run_with (from-offset n) n.present_drives-here.result n.zone_of-number.result n.offset_of-pointer.result
 
-run_is : (n : tie.After-offset_of-pointer) → runNow n ≡ run_by (from-offset n).args.by (asked (from-offset n)) (from-offset n).args.allowance
+run_is : (n : tie.After-offset_of-pointer) → run_now n ≡ run_by (from-offset n).args.by (asked (from-offset n)) (from-offset n).args.allowance
 run_is n =
     let p = n.before in
     let z = p.before.before in
     let s = from-offset n in
     let a = s.args in
-    ap (λ (h : List Bool). runWith s h z.zone_of-number.result n.offset_of-pointer.result) p.present_drives-here.ensures ∙ ap₂ (runWith s (present_list a.by.geometry a.by.named a.by.lost)) z.zone_of-number.ensures n.offset_of-pointer.ensures.0
+    ap (λ (h : List Bool). run_with s h z.zone_of-number.result n.offset_of-pointer.result) p.present_drives-here.ensures ∙ ap₂ (run_with s (present_list a.by.geometry a.by.named a.by.lost)) z.zone_of-number.ensures n.offset_of-pointer.ensures.0
 
 starts : (n : tie.After-offset_of-pointer) → let a = (from-offset n).args in offset_of a.by.geometry a.address < zone_sectors a.by.geometry
 starts n = omega (arith, n.offset_of-pointer.ensures)

@@ -10,8 +10,8 @@ use Rattle.volume.proofs.log_room.general_on.Statement.{statement}
 use Rattle.volume.proofs.log_room.general_on.Tie as tie
 
 -- how long the new log would be
-abbrev newSize : tie.Start → ℕ
-newSize s = let a = s.args in new_general_size a.asked.places.geometry (by_generations a.generations.now) (general_heads a.asked.places.geometry (read_device a.asked.places.geometry a.sectors.now a.pointers.now) a.drive)
+abbrev new_size : tie.Start → ℕ
+new_size s = let a = s.args in new_general_size a.asked.places.geometry (by_generations a.generations.now) (general_heads a.asked.places.geometry (read_device a.asked.places.geometry a.sectors.now a.pointers.now) a.drive)
 
 abbrev to_start : tie.After-room_unsized-room → tie.Start
 to_start w = w.before.before.before.before.before
@@ -22,7 +22,7 @@ returns c =
     let w = c.before in
     let s = to_start w in
     let a = s.args in
-    room_done a.asked (newSize s) a.sectors.now a.written.now a.pointers.now a.drive w.room_unsized-room.result w.room_unsized-room.ensures c.if-full-lacks.true
+    room_done a.asked (new_size s) a.sectors.now a.written.now a.pointers.now a.drive w.room_unsized-room.result w.room_unsized-room.ensures c.if-full-lacks.true
 
 general-size-requires : tie.Need-general_size-size-requires
 general-size-requires c κs =
@@ -41,7 +41,7 @@ returns-2 c =
     let a = s.args in
     let size = c.general_size-size in
     let same = placed_capacity a.asked.first a.asked.places a.sectors.now a.written.now a.pointers.now s.requires.1.0 in
-    c.with_size.ensures ∙ room_sized a.asked (newSize s) a.sectors.now a.written.now a.pointers.now a.drive w.room_unsized-room.result w.room_unsized-room.ensures a.asked.places.geometry.capacity size.result same size.ensures e.if-full-lacks.false
+    c.with_size.ensures ∙ room_sized a.asked (new_size s) a.sectors.now a.written.now a.pointers.now a.drive w.room_unsized-room.result w.room_unsized-room.ensures a.asked.places.geometry.capacity size.result same size.ensures e.if-full-lacks.false
 
 pub general_on_spec : {M : Type 1} → statement M
 general_on_spec = tie.close (tie.spec (λ c κs. search rules) returns general-size-requires (λ c κs. search rules) returns-2)

@@ -69,8 +69,8 @@ abbrev from-offset : tie.After-offset_of-offset → tie.Start
 from-offset c = from-zone c.before.before.before.before
 
 -- the zone that the code found
-abbrev zoneWith : tie.Start → List Bool → ℕ → Zone
-zoneWith s h z = record { geometry = s.args.g; here = h; number = z; generation = (record_at s.args.state z).generation }
+abbrev zone_with : tie.Start → List Bool → ℕ → Zone
+zone_with s h z = record { geometry = s.args.g; here = h; number = z; generation = (record_at s.args.state z).generation }
 
 -- of the drives, the zone and the offset that the code found
 as_called : {A : Type 0} (c : tie.After-offset_of-offset) (f : List Bool → ℕ → ℕ → A) → let a = (from-offset c).args in
@@ -87,7 +87,7 @@ read-zone-requires c κs =
     let s = from-zone f in
     let a = s.args in
     let o = passed f.before.before in
-    let asked : List Bool → ℕ → ℕ → Type 0 = λ h z x. ReadAsked (zoneWith s h z) (record_at a.state z).condition a.sectors.now a.written.now x a.count a.out.now in
+    let asked : List Bool → ℕ → ℕ → Type 0 = λ h z x. ReadAsked (zone_with s h z) (record_at a.state z).condition a.sectors.now a.written.now x a.count a.out.now in
     let small : a.count ≤ 4294967295 = omega (arith, s.ranges.count) in
     let starts : offset_of a.g a.address ≤ zone_sectors a.g = omega (arith, n.offset_of-offset.ensures) in
     let h : asked (present_list a.g a.named a.state.lost) (zone_of a.g a.address) (offset_of a.g a.address) = record {
@@ -112,10 +112,10 @@ returns-3 c =
     let s = from-zone f in
     let a = s.args in
     let o = opened-zero f.before.before in
-    let e : r.result ≡ number s = r.ensures.0 ∙ as_called n (λ h z x. zone_read_number (zoneWith s h z) (record_at a.state z).condition a.sectors.now a.written.now x a.count)
+    let e : r.result ≡ number s = r.ensures.0 ∙ as_called n (λ h z x. zone_read_number (zone_with s h z) (record_at a.state z).condition a.sectors.now a.written.now x a.count)
     ∙ zone_read_is a.g a.named a.state a.address a.count a.sectors.now a.written.now a.durable.now a.out.now o (zone-in f) in (
       c.answer_by.ensures ∙ ap (λ (m : ℕ). pick (eqb m 0) Finished (Refused m)) e,
-      r.ensures.1 ∙ as_called n (λ h z x. zone_read_left (zoneWith s h z) a.sectors.now a.written.now x a.count a.out.now r.result)
+      r.ensures.1 ∙ as_called n (λ h z x. zone_read_left (zone_with s h z) a.sectors.now a.written.now x a.count a.out.now r.result)
           ∙ zone_left_is a.g a.named a.state a.address a.count a.sectors.now a.written.now a.durable.now a.out.now o (zone-in f) r.result e,
     )
 

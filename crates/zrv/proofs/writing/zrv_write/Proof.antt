@@ -32,16 +32,16 @@ abbrev entered : tie.Else-refusal-ne0 → Ranges
 entered e = let a = (to_start e).args in ranges a.sectors.now a.written.now a.durable.now a.state.now
 
 -- what is asked, by the drives that the mask names
-abbrev askedWith : tie.Else-refusal-ne0 → List Bool → WriteCall
-askedWith e h = let a = (to_start e).args in record { geometry = e.shape-g.result; named = h; host = a.host; address = a.address; run = a.sectors_to_write; count = a.count }
+abbrev asked_with : tie.Else-refusal-ne0 → List Bool → WriteCall
+asked_with e h = let a = (to_start e).args in record { geometry = e.shape-g.result; named = h; host = a.host; address = a.address; run = a.sectors_to_write; count = a.count }
 
 -- the whole write is the call's
-whole : (w : tie.After-write_by_record-tried) (r : Answered Ranges) → let e = before-try w in let a = (to_start e).args in r ≡ whole_write (askedWith e w.named_drives-here.result) a.buffer.now (entered e)
+whole : (w : tie.After-write_by_record-tried) (r : Answered Ranges) → let e = before-try w in let a = (to_start e).args in r ≡ whole_write (asked_with e w.named_drives-here.result) a.buffer.now (entered e)
     → r ≡ write_edge e.shape-g.result a.named (write_of a.host a.address a.sectors_to_write a.buffer.now) a.count (entered e)
 whole w r h =
     let e = before-try w in
     let a = (to_start e).args in
-    h ∙ ap (λ (l : List Bool). whole_write (askedWith e l) a.buffer.now (entered e)) w.named_drives-here.ensures ∙ made _ _ _ (sym e.input_refusal-refusal.ensures ∙ zero e)
+    h ∙ ap (λ (l : List Bool). whole_write (asked_with e l) a.buffer.now (entered e)) w.named_drives-here.ensures ∙ made _ _ _ (sym e.input_refusal-refusal.ensures ∙ zero e)
 
 returns-2 : tie.Need-returns-then-made
 returns-2 c =
@@ -66,7 +66,7 @@ returns-3 c =
     let f = c.before.before.before.before.before.before.before.before.before.before in
     let w = from-else f in
     let e = before-try w in
-    let asked = askedWith e w.named_drives-here.result in
+    let asked = asked_with e w.named_drives-here.result in
     rw (← e.shape-g.ensures) (whole w _ (c.write_whole.ensures ∙ ap (whole_write asked (to_start e).args.buffer.now) (kept f)))
 
 pub zrv_write_spec : {M : Type 1} → statement M

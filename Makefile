@@ -1,7 +1,7 @@
 # explore: four drives, a write, a flush and two writes in succession: every moment at which power can go, times what the caches kept, times the drive that does not come back
-# test:  the layout, that meaning/ cites no laws, the worked values of log_walks and of docs/FORMAT.md, then everything proved from nothing, and beside it the wrong programs and the archive; the merge gate
-# check: prove every crate and run the programs (only what changed since the last time)
-# wrong: the wrong programs and wrong rules alone (`scripts/wrong_programs .` takes over this folder's target/, and need not check the crates from nothing)
+# test:  that meaning/ cites no laws, the worked values of log_walks and of docs/FORMAT.md, then everything proved (`rt ci`), the wrong programs and the archive; the merge gate
+# check: prove every crate (only what changed since the last time)
+# wrong: the wrong programs and wrong rules alone
 # archive: prove the C edge and write lib/libzrv.a anew, which C links with include/zrv.h
 # zrv: the command-line tool over a shelf kept as files, target/zrv (`target/zrv help`)
 # from-c: all tests of the archive and of the tool:
@@ -21,21 +21,20 @@ explore: target/zrv
 	@target/zrv explore
 
 test: format-test
-	@rt fmt --check
 	@! grep -n '^use .*specs\.laws\.' crates/*/specs/meaning/*.antt
 	@python3 scripts/expect_log_walks.py | cmp - crates/log_walks/stdout
 	@scripts/gate
 
 check:
-	@rt check
+	@rt all check
 
 wrong:
 	@scripts/wrong_programs
 
 archive:
-	@rt staticlib zrv
+	@cd crates/zrv_c && rt lib
 	@mkdir -p lib
-	@cp target/staticlib/libzrv.a lib/libzrv.a
+	@cp crates/zrv_c/out/libzrv_c.a lib/libzrv.a
 
 LIBRARY = lib/libzrv.a
 COMPILE = gcc -std=c11 -Wall -Wextra -Werror -pedantic -Iinclude -Ihost -Itool
@@ -143,4 +142,4 @@ bench-isal:
 	@$(EDGE)/bench_isal
 
 fmt:
-	@rt fmt
+	@for crate in crates/*/; do (cd $$crate && rt fmt) || exit 1; done

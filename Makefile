@@ -21,7 +21,7 @@ explore: target/zrv
 	@target/zrv explore
 
 test: format-test
-	@! grep -n '^use .*specs\.laws\.' crates/*/specs/meaning/*.antt
+	@! grep -nE '^use .*(specs\.laws|proofs)\.' crates/*/specs/meaning/*.antt
 	@python3 scripts/expect_log_walks.py | cmp - crates/log_walks/stdout
 	@scripts/gate
 

@@ -17,7 +17,7 @@ use tables::{Geometry, MAX_CELLS, MAX_DRIVES};
 use volume::checks::Sizes;
 use volume::log_room::RoomAsked;
 use volume::roles::LogPlaces;
-use volume::{HOSTS, MAX_SHARES, Outcome, State};
+use volume::{HOSTS, MAX_SHARES, Outcome, Refusal, State};
 
 // What is compacted: a drive's parity log, in tables of this geometry, with the drives that are here.
 #[derive(Clone, Copy)]
@@ -33,16 +33,9 @@ fn some_stale(written: &[u32], g: Geometry, here: [bool; MAX_DRIVES], state: Sta
     requires written_len { (length written.now ≡ cells g) × (state_within g (view_state state) ≡ true) }
     ensures { result ≡ some_stale g (is_set here) state written.now g.zones }
 {
-    let zones = state.zones;
-    let n = g.zones;
     let mut stale = false;
-    let mut z = 0;
-    while z < n {
-        let record = zones[z];
-        let condition = record.condition;
-        let one = volume::zone_checks::is_stale(written, g, here, condition, z);
-        stale = stale | one;
-        z += 1;
+    for z in 0..g.zones {
+        stale |= volume::zone_checks::is_stale(written, g, here, state.zones[z].condition, z);
     }
     stale
 }
@@ -52,11 +45,7 @@ fn is_here(g: Geometry, here: [bool; MAX_DRIVES], drive: usize) -> bool
     requires { Valid g }
     ensures { result ≡ ltb drive g.drives && is_set here drive }
 {
-    let n = g.drives;
-    if n <= drive {
-        return false;
-    }
-    here[drive]
+    drive < g.drives && here[drive]
 }
 
 // What it asks of the logs: that drive's is emptied however much of it is unused, and must have the reserve unused then.
@@ -103,11 +92,9 @@ fn new_share(job: Compaction, state: State) -> u32
     ensures { result ≡ new_share job state }
 {
     let g = job.first;
-    let capacity = g.capacity;
     let points = volume::records::points_of(state);
     let size = volume::emptying_parity::parity_size(g, job.drive, &points);
-    let unused = tables::placement::saturating_sub(capacity, size);
-    volume::shares::half_past(g, unused)
+    volume::shares::half_past(g, g.capacity.saturating_sub(size))
 }
 
 // How it ends with `rest` left of the budget. If it finished, the hosts have their shares of the new log, and a drive that was left out is lost.
@@ -153,7 +140,7 @@ fn compact_seen(
     let points = volume::records::points_of(state);
     let room = volume::log_room::parity_room(sectors, written, pointers, asked, &points);
     if room.full {
-        return volume::checks::refused(14, state);
+        return volume::checks::refused(Refusal::LogFull, state);
     }
     let generations = volume::records::generations_of(state);
     if volume::copies_known::copies_gone(
@@ -165,7 +152,7 @@ fn compact_seen(
         &generations,
         &points,
     ) {
-        return volume::checks::refused(15, state);
+        return volume::checks::refused(Refusal::Gone, state);
     }
     let all = volume::log_room::emptyings_of(asked, room);
     let budget = volume::checks::budget_of(count);
@@ -233,16 +220,15 @@ pub fn compact(
         count: 0,
         bytes: 0,
     };
-    let opening = volume::checks::opening(within, sizes, written, durable, g, named, lost);
-    if opening != 0 {
-        return volume::checks::refused(opening, state);
+    if let Err(refusal) = volume::checks::opening(within, sizes, written, durable, g, named, lost) {
+        return volume::checks::refused(refusal, state);
     }
     let here = volume::checks::present_drives(g, named, lost);
     if some_stale(written, g, here, state) {
-        return volume::checks::refused(7, state);
+        return volume::checks::refused(Refusal::Stale, state);
     }
     if !is_here(g, here, drive) {
-        return volume::checks::refused(8, state);
+        return volume::checks::refused(Refusal::Address, state);
     }
     let job = Compaction {
         first: g,

@@ -52,11 +52,8 @@ fn place_drive(metadata: &[u8], work: &mut [u8], s: Segment, d: usize)
     requires d_lt_drives { d < s.drives }
     ensures { work.new ≡ placed_drive s metadata.now d s.blocks work.old }
 {
-    let n = s.blocks;
-    let mut i = 0;
-    while i < n {
+    for i in 0..s.blocks {
         note_place(metadata, work, s, d, i);
-        i += 1;
     }
 }
 
@@ -66,14 +63,9 @@ fn drive_lacks(work: &[u8], s: Segment, d: usize) -> bool
     requires d_lt_drives { (d < s.drives) × (length work.now ≡ total_blocks s * 8) }
     ensures { result ≡ any_below (λ (n : ℕ). eqb (word work.now (d * s.blocks + n)) 0) s.blocks }
 {
-    let n = s.blocks;
     let mut lacks = false;
-    let mut i = 0;
-    while i < n {
-        let at = cell_of(s, d, i);
-        let w = get(work, at);
-        lacks = lacks | (w == 0);
-        i += 1;
+    for i in 0..s.blocks {
+        lacks = lacks | (get(work, cell_of(s, d, i)) == 0);
     }
     lacks
 }
@@ -93,18 +85,15 @@ fn place_present(metadata: &[u8], work: &mut [u8], s: Segment, missing: usize, d
 
 // Refusal 23: notes where all blocks lie; whether some present drive lacks a stripe ID in some group. Where one is lacking another is there twice, and the
 // other way round.
+#[tactic(auto, unfolding(crate::specs::meaning::Stripes::wrong_i_ds))]
 pub fn place_all(metadata: &[u8], work: &mut [u8], s: Segment, missing: usize) -> bool
     requires { Sized s metadata.now work.old }
     ensures { (result ≡ wrong_i_ds s metadata.now missing) × Noted s metadata.now missing s.drives work.new }
 {
     tables::sectors::clear(work);
-    let n = s.drives;
     let mut lacks = false;
-    let mut d = 0;
-    while d < n {
-        let l = place_present(metadata, work, s, missing, d);
-        lacks = lacks | l;
-        d += 1;
+    for d in 0..s.drives {
+        lacks = lacks | place_present(metadata, work, s, missing, d);
     }
     lacks
 }

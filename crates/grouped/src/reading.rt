@@ -44,16 +44,14 @@ fn later(
 }
 
 // The data block with the address and the greatest timestamp, as one more than its number; 0 if there is none.
+#[tactic(auto, unfolding(crate::specs::meaning::Reading::newest))]
 fn newest(metadata: &[u8], work: &[u8], s: Segment, missing: usize, address: u64) -> usize
     requires { Placed s metadata.now missing work.now }
     ensures { (result ≡ newest s metadata.now missing address) × (result ≤ total_blocks s) }
 {
-    let cells = super::checks::total_blocks(s);
     let mut found = 0;
-    let mut c = 0;
-    while c < cells {
+    for c in 0..super::checks::total_blocks(s) {
         found = later(metadata, work, s, missing, address, c, found);
-        c += 1;
     }
     found
 }
@@ -89,11 +87,8 @@ fn rebuild(blocks: &[u8], work: &[u8], s: Segment, missing: usize, n: usize, ans
     ensures { answer.new ≡ rebuilt_block s blocks.now missing work.now n }
 {
     tables::sectors::clear(answer);
-    let drives = s.drives;
-    let mut d = 0;
-    while d < drives {
+    for d in 0..s.drives {
         add_block(blocks, work, s, missing, n, d, answer);
-        d += 1;
     }
 }
 

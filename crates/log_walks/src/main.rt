@@ -33,19 +33,12 @@ fn zeros() -> [u8; 40960]
     [0; 40960]
 }
 
-fn field(rt: &impl Print, n: u64) -> io::Result<()> {
-    print!(rt; " {n}")
-}
-
 // The lost drive that a label names: none for 0.
 fn lost_of(x: usize) -> usize
     requires { x ≤ 8 }
     ensures { result < 256 }
 {
-    if x == 0 {
-        return 255;
-    }
-    x
+    if x == 0 { 255 } else { x }
 }
 
 // A header of each type, with one number that varies.
@@ -53,25 +46,13 @@ fn header(out: &mut [u8], g: Geometry, kind: usize, x: usize)
     requires worked { Worked g }
     requires out_len { (length out.old ≡ 64) × (x ≤ 5) }
 {
-    if kind == 1 {
-        let lost = lost_of(x);
-        logs::headers::write_label(out, g, 3, lost, ARRAY);
-        return;
+    match kind {
+        1 => logs::headers::write_label(out, g, 3, lost_of(x), ARRAY),
+        2 => logs::headers::write_counters(out, g, 3, &[x as u64, 9]),
+        3 => logs::headers::write_reset(out, g, 3, 0, x as u64),
+        4 => logs::headers::write_partial(out, g, 3, 0, 0, x, 7),
+        _ => logs::headers::write_seal(out, g, 3, 1, x, 9),
     }
-    if kind == 2 {
-        let generations = [x as u64, 9u64];
-        logs::headers::write_counters(out, g, 3, &generations);
-        return;
-    }
-    if kind == 3 {
-        logs::headers::write_reset(out, g, 3, 0, x as u64);
-        return;
-    }
-    if kind == 4 {
-        logs::headers::write_partial(out, g, 3, 0, 0, x, 7);
-        return;
-    }
-    logs::headers::write_seal(out, g, 3, 1, x, 9);
 }
 
 // Puts a header into sector i of a log.
@@ -79,22 +60,15 @@ fn place(sectors: &mut [u8], g: Geometry, zone: usize, i: usize, kind: usize, x:
     requires worked { Worked g }
     requires sectors_len { (length sectors.old ≡ 40960) × (zone < 5) × (i < 32) × (x ≤ 5) }
 {
-    let mut h = [0u8; 64];
-    header(&mut h, g, kind, x);
     let at = tables::stores::byte_at(g, 3, zone, i);
-    tables::sectors::copy_in(sectors, at, &h);
-}
-
-fn show_place(rt: &impl Print, p: usize, why: u64) -> io::Result<()> {
-    field(rt, p as u64)?;
-    field(rt, why)
+    header(&mut sectors[at..at + 64], g, kind, x);
 }
 
 fn show_end(rt: &impl Print, end: WalkEnd) -> io::Result<()> {
     match end {
-        WalkEnd::AtPointer(p) => show_place(rt, p, 0),
-        WalkEnd::NoEntry(p, _) => show_place(rt, p, 1),
-        WalkEnd::Torn(p) => show_place(rt, p, 2),
+        WalkEnd::AtPointer(p) => print!(rt; " {p} 0"),
+        WalkEnd::NoEntry(p, _) => print!(rt; " {p} 1"),
+        WalkEnd::Torn(p) => print!(rt; " {p} 2"),
     }
 }
 
@@ -103,8 +77,7 @@ fn show_rows(rt: &impl Print, end: WalkEnd, n: usize) -> io::Result<()> {
     let WalkEnd::Torn(p) = end else {
         return Ok(());
     };
-    let behind = tables::placement::saturating_sub(n, p);
-    field(rt, tables::placement::saturating_sub(behind, 1) as u64)
+    print!(rt; " {}", n.saturating_sub(p).saturating_sub(1))
 }
 
 fn show_walk(
@@ -134,14 +107,9 @@ fn show_general(rt: &impl Print, sectors: &[u8], g: Geometry, n: usize) -> io::R
     let lost = logs::folds::last_lost(sectors, g, log);
     let place = logs::folds::last_counters(sectors, g, log);
     let generation = logs::folds::last_generation(sectors, g, log, 0);
-    let reset = logs::folds::has_reset(sectors, g, log, 0, 2);
+    let reset = u64::from(logs::folds::has_reset(sectors, g, log, 0, 2));
     let least = logs::folds::least_seal(sectors, g, log, 1, 9, 96);
-    field(rt, lost as u64)?;
-    field(rt, place as u64)?;
-    field(rt, generation)?;
-    field(rt, reset as u64)?;
-    field(rt, least as u64)?;
-    println!(rt)
+    println!(rt; " {lost} {place} {generation} {reset} {least}")
 }
 
 fn show_parity(rt: &impl Print, sectors: &[u8], g: Geometry, n: usize) -> io::Result<()>
@@ -157,8 +125,7 @@ fn show_parity(rt: &impl Print, sectors: &[u8], g: Geometry, n: usize) -> io::Re
     let any = logs::folds::last_partial(sectors, g, log, 0, 7, 0, 96);
     let past = logs::folds::last_partial(sectors, g, log, 0, 7, 2, 96);
     let end = logs::walking::walk_log(sectors, g, 3, 1, true, n);
-    field(rt, any as u64)?;
-    field(rt, past as u64)?;
+    print!(rt; " {any} {past}")?;
     show_rows(rt, end, n)?;
     println!(rt)
 }
@@ -169,7 +136,7 @@ fn change(sectors: &mut [u8], g: Geometry, zone: usize, b: usize)
     requires sectors_len { (length sectors.old ≡ 40960) × (zone < 5) × (b < 64) }
 {
     let at = tables::stores::byte_at(g, 3, zone, 0);
-    sectors[at + b] = sectors[at + b] ^ 1;
+    sectors[at + b] ^= 1;
 }
 
 fn damaged(

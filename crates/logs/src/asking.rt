@@ -70,7 +70,7 @@ fn after_reset(query: Query, zone: usize, generation: u64, x: usize) -> usize
 fn after_seal(query: Query, zone: usize, pointer: usize, generation: u64, x: usize) -> usize
     ensures { result ≡ after_seal query zone pointer generation x }
 {
-    let least = tables::placement::min(x, pointer);
+    let least = x.min(pointer);
     match query {
         Query::LastLost => x,
         Query::LastCounters => x,
@@ -145,17 +145,10 @@ pub fn ask_log(
 {
     let mut x = first;
     let mut p = 0;
-    'walk: loop {
-        let step = super::walking::next_entry(sectors, g, log, parity, p);
-        match step {
-            Step::Left(_) => {
-                break 'walk;
-            }
-            Step::Whole(f, q) => {
-                x = after_found(query, g, p, f, x);
-                p = q;
-            }
-        }
+    // kept: where the next entry begins is known only from this one, so there is no range to go over.
+    while let Step::Whole(f, q) = super::walking::next_entry(sectors, g, log, parity, p) {
+        x = after_found(query, g, p, f, x);
+        p = q;
     }
     x
 }

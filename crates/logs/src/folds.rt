@@ -254,21 +254,15 @@ pub fn first_closing(sectors: &[u8], g: Geometry, log: Log, parity: bool) -> u64
     ensures { result ≡ first_closing (log_heads g log.drive parity log.zone log.written sectors.now) }
 {
     let mut p = 0;
-    'walk: loop {
-        let step = super::walking::next_entry(sectors, g, log, parity, p);
-        match step {
-            Step::Left(_) => {
-                break 'walk 0;
-            }
-            Step::Whole(f, q) => {
-                let generation = closing_of(f);
-                if generation != 0 {
-                    break 'walk generation;
-                }
-                p = q;
-            }
+    // kept: where the next entry begins is known only from this one, so there is no range to go over.
+    while let Step::Whole(f, q) = super::walking::next_entry(sectors, g, log, parity, p) {
+        let generation = closing_of(f);
+        if generation != 0 {
+            return generation;
         }
+        p = q;
     }
+    0
 }
 
 // The last label so far, after what was found next.
@@ -294,17 +288,10 @@ fn last_label(sectors: &[u8], g: Geometry, log: Log) -> Found
 {
     let mut last = Found::Bad;
     let mut p = 0;
-    'walk: loop {
-        let step = super::walking::next_entry(sectors, g, log, false, p);
-        match step {
-            Step::Left(_) => {
-                break 'walk;
-            }
-            Step::Whole(f, q) => {
-                last = later_label(f, last);
-                p = q;
-            }
-        }
+    // kept: where the next entry begins is known only from this one, so there is no range to go over.
+    while let Step::Whole(f, q) = super::walking::next_entry(sectors, g, log, false, p) {
+        last = later_label(f, last);
+        p = q;
     }
     last
 }

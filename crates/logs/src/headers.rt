@@ -147,10 +147,8 @@ fn write_words(out: &mut [u8], numbers: &[u64], l: usize)
     requires { (32 + 8 * l ≤ length out.old) × (l ≤ length numbers.now) }
     ensures { out.new ≡ overlay out.old 32 (words_le (take l numbers.now)) }
 {
-    let mut i = 0;
-    while i < l {
+    for i in 0..l {
         tables::bytes::write_u64(out, 32 + 8 * i, numbers[i]);
-        i += 1;
     }
 }
 

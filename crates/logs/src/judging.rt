@@ -3,7 +3,7 @@
 ghost use Rattle.std.specs.Prelude.{◌≡◌, ◌≢◌, ◌+◌, ◌*◌, ◌-◌, ◌≤◌, ◌<◌, length, take, drop, replicate};
 ghost use Rattle.tables.specs.meaning.Geometry.{Valid, stripe_sectors, zone_sectors};
 ghost use Rattle.tables.specs.meaning.LittleEndian.{bytes_le, same_bytes};
-ghost use Rattle.logs.specs.code.Lays.{head_same, zeros_from, zero_words};
+ghost use Rattle.logs.specs.code.Lays.{head_same, zeros_from};
 ghost use Rattle.logs.specs.code.Judge.{found};
 ghost use Rattle.logs.specs.code.JudgeMore.{label_same, as_counters};
 ghost use Rattle.logs.specs.code.WalkCode.{rows_seen, bad_seen};
@@ -28,49 +28,16 @@ fn same_u32(s: &[u8], at: usize, n: u32) -> bool
     tables::bytes::read_u32(s, at) == n
 }
 
-// Whether the 32 bytes from `at` are zero.
-fn zero_words(s: &[u8], at: usize) -> bool
-    requires { at + 32 ≤ length s.now }
-    ensures { result ≡ zero_words s.now at }
-{
-    let a = same_u64(s, at, 0);
-    let b = same_u64(s, at + 8, 0);
-    let c = same_u64(s, at + 16, 0);
-    let d = same_u64(s, at + 24, 0);
-    a & (b & (c & d))
-}
-
-// Whether all bytes from `at` on are zero, byte by byte.
-fn zero_bytes(s: &[u8], at: usize) -> bool
-    requires { at ≤ length s.now }
-    ensures { result ≡ zeros_from s.now at }
-{
-    let n = s.len();
-    let mut i = at;
-    while i < n {
-        if s[i] != 0 {
-            return false;
-        }
-        i += 1;
-    }
-    true
-}
-
-// Whether all bytes from `at` on are zero, 32 at a time.
+// Whether all bytes from `at` on are zero: gathered in one byte, with no test on the way, so that many are taken at once.
 fn zeros_from(s: &[u8], at: usize) -> bool
     requires { at ≤ length s.now }
     ensures { result ≡ zeros_from s.now at }
 {
-    let n = s.len();
-    let mut i = at;
-    while 32 <= n - i {
-        let zero = zero_words(s, i);
-        if !zero {
-            return false;
-        }
-        i += 32;
+    let mut any = 0;
+    for x in &s[at..] {
+        any |= *x;
     }
-    zero_bytes(s, i)
+    any == 0
 }
 
 // Whether mark and version are there: bytes 0 to 2, 4 and 5.
@@ -300,7 +267,7 @@ fn judge_partial(s: &[u8], g: Geometry, drive: usize, parity: bool) -> Found
     let first = tables::bytes::read_u64(s, 8) as usize;
     let z = first / q;
     let t = first % q / k;
-    let f = tables::placement::saturating_sub(tables::bytes::read_u64(s, 16) as usize, first);
+    let f = (tables::bytes::read_u64(s, 16) as usize).saturating_sub(first);
     let generation = tables::bytes::read_u64(s, 24);
     let fit = partial_fits(g, drive, parity, z, t, f);
     if !fit {
@@ -324,7 +291,7 @@ fn judge_seal(s: &[u8], g: Geometry, drive: usize, parity: bool) -> Found
     let q = tables::bounds::zone_sectors(g);
     let first = tables::bytes::read_u64(s, 8) as usize;
     let z = first / q;
-    let n = tables::placement::saturating_sub(tables::bytes::read_u64(s, 16) as usize, first);
+    let n = (tables::bytes::read_u64(s, 16) as usize).saturating_sub(first);
     let generation = tables::bytes::read_u64(s, 24);
     let fit = seal_fits(g, parity, z, n);
     if !fit {
@@ -395,7 +362,7 @@ pub fn rows_of(f: Found, g: Geometry) -> usize
         Found::Label(_, _) => 0,
         Found::Counters => 0,
         Found::Resets(_, _) => 0,
-        Found::Partial(_, _, n, _) => tables::placement::min(n, u),
+        Found::Partial(_, _, n, _) => n.min(u),
         Found::Seal(_, _, _) => 0,
         Found::Closing(_) => 0,
     }

@@ -104,30 +104,17 @@ pub fn walk_zone(bytes: &[u8], g: Geometry, drive: usize, parity: bool, written:
     requires { Valid g × InZone g written bytes.now }
     ensures { LegalEnd g drive parity written bytes.now result }
 {
-    let c = g.capacity;
     let mut p = 0;
-    'walk: loop {
-        if written <= p {
-            break 'walk WalkEnd::AtPointer(p);
-        }
-        let f = judge_in_zone(bytes, g, drive, parity, written, p);
-        let rows = super::judging::rows_of(f, g);
-        let bad = super::judging::is_bad(f);
-        if bad {
-            let fault = fault_in_zone(bytes, g, written, p);
-            break 'walk WalkEnd::NoEntry(p, fault);
-        }
-        if c < p + 1 + rows {
-            break 'walk WalkEnd::NoEntry(p, Fault::RowsPast);
-        }
-        let mut k = 0;
-        'rows: while k < rows {
-            if written <= p + 1 + k {
-                break 'walk WalkEnd::Torn(p);
+    // kept: where the next entry begins is known only from this one, so there is no range to go over.
+    loop {
+        match step_in_zone(bytes, g, drive, parity, written, p) {
+            Step::Left(end) => {
+                return end;
             }
-            k += 1;
+            Step::Whole(_, q) => {
+                p = q;
+            }
         }
-        p = p + 1 + rows;
     }
 }
 

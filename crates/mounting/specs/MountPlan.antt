@@ -2,6 +2,7 @@
 use Rattle.std.specs.Prelude.{◌≡◌, Bool, ◌||◌, false, ℕ, List, length}
 use Rattle.tables.specs.declared.Geometry.{Geometry}
 use Rattle.tables.specs.meaning.Tables.{Tables, tables_of}
+use Rattle.volume.specs.checks.RefusalNumbers.{number_of}
 use Rattle.volume.specs.declared.looking.Survey.{Survey}
 use Rattle.mounting.specs.declared.rooms.Plan.{Plan}
 use Rattle.volume.specs.meaning.CallContracts.{is_set, roles_of, seen_in}
@@ -16,7 +17,7 @@ use Rattle.mounting.specs.MountRooms.{lost_among, Planned}
 pub record Passed (g : Geometry) (named : List Bool) (t : Tables) (v : Survey) (ps : List ℕ) : Type 0 where
   pub shape : shape_number g named (length t.sectors) t.written t.durable ≡ 0
   pub found : Surveyed g named t.sectors t.written v ps
-  pub none : v.refusal ≡ 0
+  pub none : number_of v.refusal ≡ 0
 
 -- the plan (full: whether a log stays full, refusal 14)
 pub record Planning (g : Geometry) (t : Tables) (v : Survey) (p : Plan) (ps : List ℕ) : Type 0 where

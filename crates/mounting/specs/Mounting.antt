@@ -15,6 +15,7 @@ use Rattle.tables.specs.meaning.Tables.{Tables, tables_of, cell, device_of, run_
 use Rattle.tables.specs.laws.Made.{Made}
 use Rattle.tables.specs.laws.Counted.{run_covered}
 use Rattle.tables.specs.laws.PointerOrder.{run_most}
+use Rattle.volume.specs.checks.RefusalNumbers.{number_of}
 use Rattle.volume.specs.declared.State.{State}
 use Rattle.volume.specs.declared.Outcome.{Outcome}
 use Rattle.volume.specs.declared.Answer.{Answer}
@@ -150,17 +151,17 @@ module _ (g : Geometry) (named : List Bool) (old : State) (count : ℕ) (t : Tab
       (ap (λ (a : Answer). record { answer = a; state = old }) (refused_plain (bad_place_on g named t) n six) ∙ p, q)
 
   module _ (v : Survey) (ps : List ℕ) (shape : shape_number g named (length t.sectors) t.written t.durable ≡ 0) (found : Surveyed g named t.sectors t.written v ps) where
-    looked : v.refusal ≡ verdict_number (look_verdict g named t)
+    looked : number_of v.refusal ≡ verdict_number (look_verdict g named t)
     looked = survey_refusal g named t.sectors t.written v ps found t.durable shape
 
     -- 4 to 6
-    pub refused_logs : v.refusal ≢ 0 → (◌≡◌ {A = Outcome} (record { answer = refused_at v.bad v.refusal; state = old }) (mount_on g named old count t).outcome) × (t ≡ (mount_on g named old count t).tables)
+    pub refused_logs : number_of v.refusal ≢ 0 → (◌≡◌ {A = Outcome} (record { answer = refused_at v.bad (number_of v.refusal); state = old }) (mount_on g named old count t).outcome) × (t ≡ (mount_on g named old count t).tables)
     refused_logs h =
-        let (p, q) = mount_refused v.refusal (refused_by_look g named t v.refusal looked h) h in
+        let (p, q) = mount_refused (number_of v.refusal) (refused_by_look g named t (number_of v.refusal) looked h) h in
         let e = survey_bad g named t.sectors t.written v ps found t.durable in
-        (ap (λ (b : BadPlace). record { answer = refused_at b v.refusal; state = old }) e ∙ p, q)
+        (ap (λ (b : BadPlace). record { answer = refused_at b (number_of v.refusal); state = old }) e ∙ p, q)
 
-    module _ (none : v.refusal ≡ 0) (p : Plan) (k : Planning g t v p ps) where
+    module _ (none : number_of v.refusal ≡ 0) (p : Plan) (k : Planning g t v p ps) where
       here_is : is_set p.here ≡ present_in g (is_set named) (device_of g t)
       here_is = ap is_set k.here_is ∙ survey_present g named t.sectors t.written v ps found t.durable
 

@@ -29,25 +29,14 @@ fn zone_empty(g: Geometry, look: Look, z: usize) -> bool
     requires z_lt_zones { z < g.zones }
     ensures { result ≡ is_empty (zone_look look z).condition }
 {
-    let zones = look.zones;
-    let zone = zones[z];
-    let condition = zone.condition;
-    volume::records::is_empty(condition)
+    volume::records::is_empty(look.zones[z].condition)
 }
 
 fn any_empty(g: Geometry, look: Look) -> bool
     requires { Valid g }
     ensures { result ≡ any_below (λ (z : ℕ). is_empty (zone_look look z).condition) g.zones }
 {
-    let n = g.zones;
-    let mut any = false;
-    let mut z = 0;
-    while z < n {
-        let empty = zone_empty(g, look, z);
-        any = any | empty;
-        z += 1;
-    }
-    any
+    (0..g.zones).any(|z| zone_empty(g, look, z))
 }
 
 // A zone's generation in the new counters.
@@ -56,14 +45,12 @@ fn next_generation(g: Geometry, look: Look, z: usize) -> u64
     requires z_lt_zones { (z < g.zones) × LookWithin g look }
     ensures { result ≡ next_generation (shown_by look) z }
 {
-    let zones = look.zones;
-    let zone = zones[z];
-    let generation = zone.generation;
-    let empty = zone_empty(g, look, z);
-    if !empty {
-        return generation;
+    let generation = look.zones[z].generation;
+    if zone_empty(g, look, z) {
+        generation + 1
+    } else {
+        generation
     }
-    generation + 1
 }
 
 fn next_generations(g: Geometry, look: Look) -> [u64; MAX_ZONES]
@@ -71,12 +58,9 @@ fn next_generations(g: Geometry, look: Look) -> [u64; MAX_ZONES]
     requires look_within { LookWithin g look }
     ensures { result ≡ filled (next_generation (shown_by look)) g.zones }
 {
-    let n = g.zones;
     let mut next = [0u64; MAX_ZONES];
-    let mut z = 0;
-    while z < n {
+    for z in 0..g.zones {
         next[z] = next_generation(g, look, z);
-        z += 1;
     }
     next
 }
@@ -87,16 +71,10 @@ fn same_generations(sectors: &[u8], g: Geometry, a: Log, p: usize, b: Log, q: us
     requires in_log { InLog g a.drive a.zone a.written sectors.now × (p < a.written) × InLog g b.drive b.zone b.written sectors.now × (q < b.written) }
     ensures { result ≡ all_below (λ (z : ℕ). eqb (read_le 8 (get_or (log_sectors g a.drive a.zone sectors.now a.written) p []) (32 + 8 * z)) (read_le 8 (get_or (log_sectors g b.drive b.zone sectors.now b.written) q []) (32 + 8 * z))) g.zones }
 {
-    let l = g.zones;
-    let mut same = true;
-    let mut z = 0;
-    while z < l {
-        let x = logs::folds::generation_at(sectors, g, a, p, z);
-        let y = logs::folds::generation_at(sectors, g, b, q, z);
-        same = same & (x == y);
-        z += 1;
-    }
-    same
+    (0..g.zones).all(|z| {
+        logs::folds::generation_at(sectors, g, a, p, z)
+            == logs::folds::generation_at(sectors, g, b, q, z)
+    })
 }
 
 // Whether two drives have the same last counters. A drive without counters differs from one with them.
@@ -141,12 +119,7 @@ fn differs_from(
     requires d_lt_drives { (d < g.drives) × (e < g.drives) × (length sectors.now ≡ total_bytes g) × (length pointers.now ≡ cells g) }
     ensures { result ≡ is_set here e && not (same_bytes (last_counters [] (general_heads g (read_device g sectors.now pointers.now) d)) (last_counters [] (general_heads g (read_device g sectors.now pointers.now) e))) }
 {
-    let present = here[e];
-    if !present {
-        return false;
-    }
-    let same = same_counters(sectors, pointers, g, d, e);
-    !same
+    here[e] && !same_counters(sectors, pointers, g, d, e)
 }
 
 fn any_differs(
@@ -160,15 +133,7 @@ fn any_differs(
     requires d_lt_drives { (d < g.drives) × (length sectors.now ≡ total_bytes g) × (length pointers.now ≡ cells g) }
     ensures { result ≡ any_below (λ (e : ℕ). is_set here e && not (same_bytes (last_counters [] (general_heads g (read_device g sectors.now pointers.now) d)) (last_counters [] (general_heads g (read_device g sectors.now pointers.now) e)))) g.drives }
 {
-    let n = g.drives;
-    let mut any = false;
-    let mut e = 0;
-    while e < n {
-        let differs = differs_from(sectors, pointers, g, here, d, e);
-        any = any | differs;
-        e += 1;
-    }
-    any
+    (0..g.drives).any(|e| differs_from(sectors, pointers, g, here, d, e))
 }
 
 // Whether drive d is here and some drive's last counters are not its.
@@ -183,11 +148,7 @@ fn differs_at(
     requires d_lt_drives { (d < g.drives) × (length sectors.now ≡ total_bytes g) × (length pointers.now ≡ cells g) }
     ensures { result ≡ is_set here d && any_below (λ (e : ℕ). is_set here e && not (same_bytes (last_counters [] (general_heads g (read_device g sectors.now pointers.now) d)) (last_counters [] (general_heads g (read_device g sectors.now pointers.now) e)))) g.drives }
 {
-    let present = here[d];
-    if !present {
-        return false;
-    }
-    any_differs(sectors, pointers, g, here, d)
+    here[d] && any_differs(sectors, pointers, g, here, d)
 }
 
 // Whether the last counters of the drives that are here differ.
@@ -201,24 +162,16 @@ pub fn counters_differ(
     requires sectors_len { (length sectors.now ≡ total_bytes g) × (length pointers.now ≡ cells g) }
     ensures { result ≡ counters_differ g (is_set here) (read_device g sectors.now pointers.now) }
 {
-    let n = g.drives;
-    let mut any = false;
-    let mut d = 0;
-    while d < n {
-        let differs = differs_at(sectors, pointers, g, here, d);
-        any = any | differs;
-        d += 1;
-    }
-    any
+    (0..g.drives).any(|d| differs_at(sectors, pointers, g, here, d))
 }
 
 // Whether new counters are due.
+#[tactic(auto, unfolding(crate::specs::MountGenerations::counters_due))]
 fn counters_due(g: Geometry, look: Look, differ: bool) -> bool
     requires { Valid g }
     ensures { result ≡ counters_due g look differ }
 {
-    let empty = any_empty(g, look);
-    empty | differ
+    any_empty(g, look) || differ
 }
 
 // The counters of the step, if they are due.

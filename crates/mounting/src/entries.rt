@@ -97,7 +97,7 @@ pub fn append_entry_rows(
         zone: logs::PARITY_LOG,
         present: true,
     };
-    let m = tables::placement::min(fill, basis.geometry.unit);
+    let m = fill.min(basis.geometry.unit);
     let none = [0u8; 1];
     volume::rows::append_rows(
         sectors,
@@ -192,14 +192,11 @@ fn log_drive(
     ensures { MadeAppends to budget result
         (on_present (is_set basis.here) (each_below (zone_entry_stores basis.geometry basis.look (shown_by basis sectors.old pointers.now) (parity_entries to (read_device to sectors.old starts.now) drive) drive) basis.geometry.zones)) sectors.old written.old sectors.new written.new }
 {
-    let n = basis.geometry.zones;
     let mut rest = budget;
-    let mut z = 0;
-    while z < n {
+    for z in 0..basis.geometry.zones {
         rest = log_entry(
             sectors, written, pointers, starts, basis, to, drive, z, rest,
         );
-        z += 1;
     }
     rest
 }
@@ -219,12 +216,9 @@ pub fn log_entries(
     ensures { MadeAppends to budget result
         (on_present (is_set basis.here) (entry_stores_below basis.geometry basis.look (shown_by basis sectors.old pointers.now) (parity_entries to (read_device to sectors.old starts.now)) basis.geometry.drives)) sectors.old written.old sectors.new written.new }
 {
-    let m = basis.geometry.drives;
     let mut rest = budget;
-    let mut d = 0;
-    while d < m {
+    for d in 0..basis.geometry.drives {
         rest = log_drive(sectors, written, pointers, starts, basis, to, d, rest);
-        d += 1;
     }
     rest
 }

@@ -103,10 +103,8 @@ fn fill_sectors(
         sectors.old written.old sectors.new written.new }
 {
     let mut rest = budget;
-    let mut x = from;
-    while x < to {
+    for x in from..to {
         rest = fill_sector(sectors, written, pointers, known, target, x, rest);
-        x += 1;
     }
     rest
 }
@@ -193,12 +191,9 @@ fn fill_drive(
     ensures { MadeAppends basis.geometry budget result
         (on_present (is_set basis.here) (each_below (fill_zone basis.geometry (shown_by basis sectors.old pointers.now) (read_device basis.geometry sectors.old pointers.now) drive) basis.geometry.zones)) sectors.old written.old sectors.new written.new }
 {
-    let n = basis.geometry.zones;
     let mut rest = budget;
-    let mut z = 0;
-    while z < n {
+    for z in 0..basis.geometry.zones {
         rest = fill_zone(sectors, written, pointers, basis, drive, z, rest);
-        z += 1;
     }
     rest
 }
@@ -216,12 +211,9 @@ pub fn fill_drives(
     ensures { MadeAppends basis.geometry budget result
         (on_present (is_set basis.here) (fill_drives basis.geometry (shown_by basis sectors.old pointers.now) (read_device basis.geometry sectors.old pointers.now) basis.geometry.drives)) sectors.old written.old sectors.new written.new }
 {
-    let m = basis.geometry.drives;
     let mut rest = budget;
-    let mut d = 0;
-    while d < m {
+    for d in 0..basis.geometry.drives {
         rest = fill_drive(sectors, written, pointers, basis, d, rest);
-        d += 1;
     }
     rest
 }

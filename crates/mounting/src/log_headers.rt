@@ -44,7 +44,7 @@ pub fn sectors_then(pointers: &[u32], g: Geometry, drive: usize, zone: usize) ->
 {
     let at = tables::stores::cell_of(g, drive, zone);
     let n = tables::bounds::widen(pointers[at]);
-    tables::placement::min(n, g.capacity)
+    n.min(g.capacity)
 }
 
 // Whether a drive is due a new label: its last does not name the lost drive.
@@ -202,10 +202,8 @@ fn log_drive(
     ensures { MadeAppends basis.geometry budget result (on_present (is_set basis.here) (each_below (header_stores basis.geometry kind basis.look (read_device basis.geometry sectors.old pointers.now) drive) n)) sectors.old written.old sectors.new written.new }
 {
     let mut rest = budget;
-    let mut z = 0;
-    while z < n {
+    for z in 0..n {
         rest = log_header(kind, sectors, written, pointers, basis, drive, z, rest);
-        z += 1;
     }
     rest
 }
@@ -224,12 +222,9 @@ pub fn log_headers(
     requires n_le_zones { (n ≤ basis.geometry.zones) × Logging basis.geometry basis.look pointers.now sectors.old written.old }
     ensures { MadeAppends basis.geometry budget result (on_present (is_set basis.here) (header_steps basis.geometry kind basis.look (read_device basis.geometry sectors.old pointers.now) n basis.geometry.drives)) sectors.old written.old sectors.new written.new }
 {
-    let m = basis.geometry.drives;
     let mut rest = budget;
-    let mut d = 0;
-    while d < m {
+    for d in 0..basis.geometry.drives {
         rest = log_drive(kind, sectors, written, pointers, basis, d, n, rest);
-        d += 1;
     }
     rest
 }

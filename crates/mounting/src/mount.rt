@@ -16,7 +16,7 @@ ghost use Rattle.mounting.specs.Mounting.{mounted_on, ShownNow, MountEnded};
 use super::plan::Course;
 use super::rooms::Plan;
 use tables::{Geometry, MAX_CELLS, MAX_DRIVES};
-use volume::{Answer, Outcome, State};
+use volume::{Answer, Outcome, Refusal, State};
 
 // The first flush and steps 1 to 9: what is left of the budget. `pointers` are afterwards those of the moment before step 3, by which what is missing is
 // read; the logs lie then where those of step 2 were emptied to.
@@ -160,20 +160,24 @@ pub fn mount(
     ensures { (result ≡ (mount_on g named old count (tables_of sectors.old written.old durable.old)).outcome)
         × (tables_of sectors.new written.new durable.new ≡ (mount_on g named old count (tables_of sectors.old written.old durable.old)).tables) }
 {
-    let shape = volume::looking::shape_refusal(sectors.len(), written, durable, g, named);
-    if shape != 0 {
-        return volume::checks::refused(shape, old);
+    if let Err(refusal) = volume::looking::shape_refusal(
+        sectors.len(),
+        written,
+        durable,
+        g,
+        named,
+    ) {
+        return volume::checks::refused(refusal, old);
     }
     let cells = written.len();
     let mut pointers = [0u32; MAX_CELLS];
     let found = volume::looking::survey_drives(sectors, written, &mut pointers[..cells], g, named);
-    let refusal = found.refusal;
-    if refusal != 0 {
+    if let Err(refusal) = found.refusal {
         return volume::checks::refused_at(refusal, found.bad, old);
     }
     let plan = super::plan::plan_mount(sectors, written, &pointers[..cells], g, found);
     if plan.general.full | plan.parity.full {
-        return volume::checks::refused(14, old);
+        return volume::checks::refused(Refusal::LogFull, old);
     }
     mount_planned(
         sectors,

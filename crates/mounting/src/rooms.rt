@@ -31,22 +31,18 @@ pub fn reset_spares(
     requires written_len { (length written.old ≡ cells g) × (length durable.old ≡ cells g) × (length pointers.now ≡ cells g) }
     ensures { MadePointers g budget result (on_present (is_set here) (each_below (spare_reset g pointers.now) g.drives)) written.old durable.old written.new durable.new }
 {
-    let n = g.drives;
     let mut rest = budget;
-    let mut d = 0;
-    while d < n {
-        let present = here[d];
+    for d in 0..g.drives {
         let used = volume::drive_logs::zone_pointer(pointers, g, d, volume::emptying::SPARE_ZONE);
         rest = tables::stores::reset_counted(
             written,
             durable,
             g,
-            present & (0 < used),
+            here[d] & (0 < used),
             d,
             volume::emptying::SPARE_ZONE,
             rest,
         );
-        d += 1;
     }
     rest
 }

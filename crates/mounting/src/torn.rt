@@ -62,10 +62,8 @@ fn append_zero_rows(
     ensures { MadeAppends g budget result (rows_if true drive parity_zone (zero_row g) from m) sectors.old written.old sectors.new written.new }
 {
     let mut rest = budget;
-    let mut r = from;
-    while r < m {
+    for _ in from..m {
         rest = append_zeros(sectors, written, g, drive, rest);
-        r += 1;
     }
     rest
 }
@@ -108,7 +106,7 @@ fn complete_rows(
     }
     let drive = entry.drive;
     let from = entry.from;
-    let m = tables::placement::min(fill, basis.geometry.unit);
+    let m = fill.min(basis.geometry.unit);
     append_zero_rows(sectors, written, basis.geometry, drive, from, m, budget)
 }
 
@@ -195,12 +193,9 @@ pub fn complete_logs(
     ensures { MadeAppends basis.geometry budget result
         (on_present (is_set basis.here) (each_below (torn_stores basis.geometry (shown_by basis sectors.old pointers.now) (read_device basis.geometry sectors.old pointers.now)) basis.geometry.drives)) sectors.old written.old sectors.new written.new }
 {
-    let m = basis.geometry.drives;
     let mut rest = budget;
-    let mut d = 0;
-    while d < m {
+    for d in 0..basis.geometry.drives {
         rest = complete_log(sectors, written, pointers, basis, d, rest);
-        d += 1;
     }
     rest
 }

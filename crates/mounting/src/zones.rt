@@ -42,22 +42,18 @@ fn reset_drive(
     requires drive_lt_drives { (drive < g.drives) × (length written.old ≡ cells g) × (length durable.old ≡ cells g) }
     ensures { MadePointers g budget result (on_present (is_set here) (zone_resets look drive g.zones)) written.old durable.old written.new durable.new }
 {
-    let n = g.zones;
     let mut rest = budget;
-    let mut z = 0;
-    while z < n {
-        let present = here[drive];
+    for z in 0..g.zones {
         let needed = reset_needed(g, look, z);
         rest = tables::stores::reset_counted(
             written,
             durable,
             g,
-            present & needed,
+            here[drive] & needed,
             drive,
             tables::DATA_ZONES + z,
             rest,
         );
-        z += 1;
     }
     rest
 }
@@ -75,12 +71,9 @@ pub fn reset_zones(
     requires written_len { (length written.old ≡ cells g) × (length durable.old ≡ cells g) }
     ensures { MadePointers g budget result (on_present (is_set here) (zone_reset_step g (shown_by look))) written.old durable.old written.new durable.new }
 {
-    let m = g.drives;
     let mut rest = budget;
-    let mut d = 0;
-    while d < m {
+    for d in 0..g.drives {
         rest = reset_drive(written, durable, g, here, look, d, rest);
-        d += 1;
     }
     rest
 }

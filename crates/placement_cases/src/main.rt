@@ -7,16 +7,8 @@ ghost use Rattle.tables.specs.meaning.Geometry.{Valid};
 use std::io;
 use tables::Geometry;
 
-fn text(rt: &impl Print, s: &[u8]) -> io::Result<()> {
-    rt.write_all(s)
-}
-
-fn number(rt: &impl Print, n: usize) -> io::Result<()> {
-    rt.print(n)
-}
-
 // Where the sector at an address of the volume lies.
-fn place(rt: &impl Print, name: &[u8], g: Geometry, address: usize) -> io::Result<()>
+fn place(rt: &impl Print, name: char, g: Geometry, address: usize) -> io::Result<()>
     requires { Valid g }
 {
     let n = tables::bounds::zone_sectors(g);
@@ -27,74 +19,56 @@ fn place(rt: &impl Print, name: &[u8], g: Geometry, address: usize) -> io::Resul
     let a = address % n;
     let d = tables::placement::drive_of(g, zone, a);
     let x = tables::placement::sector_of(g, a);
-    text(rt, name)?;
-    text(rt, b" drive ")?;
-    number(rt, d)?;
-    text(rt, b" zone ")?;
-    number(rt, tables::DATA_ZONES + zone)?;
-    text(rt, b" sector ")?;
-    number(rt, x)?;
-    text(rt, b"\n")
+    println!(rt;
+        "{name} drive {d} zone {} sector {x}",
+        tables::DATA_ZONES + zone
+    )
 }
 
 // The parity drive at a sector of zone 0.
-fn parity(rt: &impl Print, name: &[u8], g: Geometry, x: usize) -> io::Result<()>
+fn parity(rt: &impl Print, name: char, g: Geometry, x: usize) -> io::Result<()>
     requires { Valid g }
 {
-    let u = g.unit;
-    let stripe = x / u;
+    let stripe = x / g.unit;
     if 65536 < stripe {
         return Ok(());
     }
     let d = tables::placement::parity_drive(g.drives, 0, stripe);
-    text(rt, name)?;
-    text(rt, b" drive ")?;
-    number(rt, d)?;
-    text(rt, b" zone 3 sector ")?;
-    number(rt, x)?;
-    text(rt, b"\n")
+    println!(rt; "{name} drive {d} zone 3 sector {x}")
 }
 
 fn need(rt: &impl Print, g: Geometry, n: usize, drive: usize) -> io::Result<()>
     requires { Valid g }
 {
-    let most = tables::bounds::zone_sectors(g);
-    if most < n {
+    if tables::bounds::zone_sectors(g) < n || g.drives <= drive {
         return Ok(());
     }
-    if g.drives <= drive {
-        return Ok(());
-    }
-    let k = tables::placement::sectors_needed(g, 0, n, drive);
-    text(rt, b" ")?;
-    number(rt, k)
+    print!(rt; " {}", tables::placement::sectors_needed(g, 0, n, drive))
 }
 
 // What pointer n of zone 0 needs of each of the four drives.
-fn needs(rt: &impl Print, name: &[u8], g: Geometry, n: usize) -> io::Result<()>
+fn needs(rt: &impl Print, name: char, g: Geometry, n: usize) -> io::Result<()>
     requires { Valid g }
 {
-    text(rt, name)?;
-    text(rt, b" needs")?;
-    need(rt, g, n, 0)?;
-    need(rt, g, n, 1)?;
-    need(rt, g, n, 2)?;
-    need(rt, g, n, 3)?;
-    text(rt, b"\n")
+    print!(rt; "{name} needs")?;
+    for drive in 0..4 {
+        need(rt, g, n, drive)?;
+    }
+    println!(rt)
 }
 
 fn all(rt: &impl Print, g: Geometry) -> io::Result<()>
     requires { Valid g }
 {
-    place(rt, b"a", g, 0)?;
-    place(rt, b"b", g, 7)?;
-    place(rt, b"c", g, 95)?;
-    place(rt, b"d", g, 96)?;
-    parity(rt, b"e", g, 2)?;
-    parity(rt, b"e", g, 3)?;
-    needs(rt, b"f", g, 5)?;
-    needs(rt, b"g", g, 6)?;
-    needs(rt, b"h", g, 7)
+    place(rt, 'a', g, 0)?;
+    place(rt, 'b', g, 7)?;
+    place(rt, 'c', g, 95)?;
+    place(rt, 'd', g, 96)?;
+    parity(rt, 'e', g, 2)?;
+    parity(rt, 'e', g, 3)?;
+    needs(rt, 'f', g, 5)?;
+    needs(rt, 'g', g, 6)?;
+    needs(rt, 'h', g, 7)
 }
 
 fn main(rt: HostRuntime) -> io::Result<()> {

@@ -182,7 +182,11 @@ pub fn peek(sectors: &[u8], written: &[u32], durable: &[u32], h: Host, c: Comman
     let g = h.geometry;
     let s = h.state;
     let named = super::hosting::named_in(c.first);
-    let code = volume::reading::peek_refusal(sectors, written, durable, g, named, s, c.second);
+    let peeked = volume::reading::peek_refusal(sectors, written, durable, g, named, s, c.second);
+    let code = match peeked {
+        Ok(()) => 0,
+        Err(refusal) => refusal.number(),
+    };
     super::hosting::plain(h, code, s)
 }
 

@@ -9,7 +9,7 @@ use volume::{State, ZoneRecord};
 pub fn lend(length: usize, short: usize, most: usize) -> usize
     ensures { result ≤ most }
 {
-    let n = tables::placement::saturating_sub(length, short);
+    let n = length.saturating_sub(short);
     if n <= most {
         return n;
     }

@@ -138,7 +138,7 @@ fn change_host(h: Host, c: Command) -> Host {
 fn cut_tables(written: &mut [u32], durable: &mut [u32], h: Host, c: Command) {
     let w = super::hosting::lend(h.cells, 0, written.len());
     let d = super::hosting::lend(h.cells, 0, durable.len());
-    let n = tables::placement::min(w, d);
+    let n = w.min(d);
     super::stream::cut(&mut written[..n], &mut durable[..n], c.first);
 }
 

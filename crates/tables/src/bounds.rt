@@ -27,10 +27,11 @@ pub fn geometry_of(
     }
 }
 
-fn size_ok(b: usize) -> bool
+// Whether a sector, or a block, may have so many bytes.
+pub fn size_ok(b: usize) -> bool
     ensures { result ≡ sector_size b }
 {
-    (b == 64) | (b == 128) | (b == 256) | (b == 512) | (b == 1024) | (b == 2048) | (b == 4096)
+    matches!(b, 64 | 128 | 256 | 512 | 1024 | 2048 | 4096)
 }
 
 fn in_ranges(g: Geometry) -> bool
@@ -166,34 +167,16 @@ fn drive_bad(written: &[u32], durable: &[u32], g: Geometry, d: usize) -> bool
     requires d_lt_drives { (d < g.drives) × (length written.now ≡ cells g) × (length durable.now ≡ cells g) }
     ensures { result ≡ any_below (pointer_bad g written.now durable.now d) (physical_zones g) }
 {
-    let z = g.zones + super::DATA_ZONES;
-    let c = g.capacity;
     let mut bad = false;
-    let mut y = 0;
-    while y < z {
+    for y in 0..g.zones + super::DATA_ZONES {
         let at = super::stores::cell_of(g, d, y);
-        let w = written[at];
-        let k = durable[at];
-        let v = widen(w);
-        bad = bad | ((c < v) | (w < k));
-        y += 1;
+        bad = bad | ((g.capacity < widen(written[at])) | (written[at] < durable[at]));
     }
     bad
 }
 
-// That, if the drive is named; of a drive that is not, no pointer is read.
-fn named_bad(written: &[u32], durable: &[u32], g: Geometry, named: bool, d: usize) -> bool
-    requires valid { Valid g }
-    requires d_lt_drives { (d < g.drives) × (length written.now ≡ cells g) × (length durable.now ≡ cells g) }
-    ensures { result ≡ named && any_below (pointer_bad g written.now durable.now d) (physical_zones g) }
-{
-    if !named {
-        return false;
-    }
-    drive_bad(written, durable, g, d)
-}
-
 // Refusal 3: whether a named drive has a pointer that no drive can have.
+#[tactic(auto, unfolding(crate::specs::meaning::Tables::pointers_bad))]
 pub fn pointers_bad(
     written: &[u32],
     durable: &[u32],
@@ -204,13 +187,10 @@ pub fn pointers_bad(
     requires written_len { (length written.now ≡ cells g) × (length durable.now ≡ cells g) }
     ensures { result ≡ pointers_bad g named written.now durable.now }
 {
-    let n = g.drives;
     let mut bad = false;
-    let mut d = 0;
-    while d < n {
-        let b = named_bad(written, durable, g, named[d], d);
-        bad = bad | b;
-        d += 1;
+    for d in 0..g.drives {
+        // Of a drive that is not named, no pointer is read.
+        bad = bad | (named[d] && drive_bad(written, durable, g, d));
     }
     bad
 }

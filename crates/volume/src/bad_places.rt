@@ -117,18 +117,16 @@ fn present_place(sectors: &[u8], written: &[u32], g: Geometry, present: bool, d:
 }
 
 // The first of all.
+#[tactic(auto, unfolding(crate::specs::meaning::Refusals::first_bad_place))]
 pub fn first_bad(sectors: &[u8], written: &[u32], g: Geometry, here: [bool; MAX_DRIVES]) -> BadPlace
     requires valid { Valid g }
     requires sized { Sized g sectors.now written.now }
     ensures { result ≡ first_bad_place g (is_set here) (zone_place g) (read_device g sectors.now written.now) }
 {
-    let n = g.drives;
     let mut bad = no_place();
-    let mut d = 0;
-    while d < n {
+    for d in 0..g.drives {
         let next = present_place(sectors, written, g, here[d], d);
         bad = first_of(bad, next);
-        d += 1;
     }
     bad
 }

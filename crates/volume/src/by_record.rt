@@ -2,6 +2,7 @@
 // it. The write is made where it needs nothing else of the state, which is where it needs no log but that of its entry; the read never does.
 ghost use Rattle.std.specs.Prelude.{◌≡◌, false, ◌<◌};
 ghost use Rattle.tables.specs.meaning.Geometry.{Valid, zone_sectors};
+ghost use Rattle.volume.specs.checks.RefusalNumbers.{number_of};
 ghost use Rattle.volume.specs.checks.ByRecord.{RecordFits};
 ghost use Rattle.volume.specs.writing.Writing.{write_asked};
 ghost use Rattle.volume.specs.writing.WriteByRecord.{recorded_of, WrittenBy};
@@ -9,9 +10,9 @@ ghost use Rattle.volume.specs.reading.ReadByRecord.{ReadBy};
 
 use super::checks::Sizes;
 use super::hosts::Allowance;
-use super::write_directly::Tried;
+use super::write_directly::WriteMade;
 use super::writing::Run;
-use super::{Zone, ZoneRecord};
+use super::{Refusal, Zone, ZoneRecord};
 use tables::{Geometry, MAX_DRIVES};
 
 // What a call on one zone takes of its input beside the tables: the geometry, the drives named, of the state the lost drive and the record of the
@@ -25,11 +26,10 @@ pub struct ByRecord {
     pub bad: bool,
 }
 
-// Whether the write was made; and then what is left of its budget of stores, and of the state that it hands on the lost drive, the zone's pointer, and the drive
-// where its entry is off its host's share, with the entry's sectors.
+// Of a write that was made, what is left of its budget of stores, and of the state that it hands on the lost drive, the zone's pointer, and the drive where
+// its entry is off its host's share, with the entry's sectors.
 #[derive(Clone, Copy)]
 pub struct Recorded {
-    pub made: bool,
     pub rest: u64,
     pub lost: usize,
     pub pointer: usize,
@@ -37,33 +37,18 @@ pub struct Recorded {
     pub taken: usize,
 }
 
-// A write that was not made.
-fn not_made() -> Recorded
-    ensures { result.made ≡ false }
-{
-    Recorded {
-        made: false,
-        rest: 0,
-        lost: 0,
-        pointer: 0,
-        drive: 0,
-        taken: 0,
-    }
-}
-
-// What is told of a write that was tried.
-fn recorded_of(run: Run, tried: Tried) -> Recorded
+// What is told of a write that was made.
+fn recorded_of(run: Run, made: WriteMade) -> Recorded
     requires valid { Valid run.zone.geometry }
     requires pointer_bound { (run.pointer < zone_sectors run.zone.geometry) × (run.count < 4294967296) }
-    ensures { result ≡ recorded_of run tried }
+    ensures { result ≡ recorded_of run made }
 {
     let here = run.zone.here;
-    let entry = tried.entry;
+    let entry = made.entry;
     let pointer = run.pointer + run.count;
     let absent = super::checks::left_out(run.zone.geometry, here);
     Recorded {
-        made: tried.made,
-        rest: tried.rest,
+        rest: made.rest,
         lost: absent,
         pointer,
         drive: entry.drive,
@@ -82,7 +67,7 @@ pub fn write_record(
     run: u32,
     buffer: &[u8],
     count: u32,
-) -> Recorded
+) -> Option<Recorded>
     requires valid { Valid by.geometry }
     requires record_fits { RecordFits by written.old }
     ensures { WrittenBy by (write_asked host address run buffer.now) allowance count sectors.old written.old sectors.new written.new result }
@@ -96,11 +81,12 @@ pub fn write_record(
         count: run as u64,
         bytes: buffer.len(),
     };
-    let first = super::checks::opened(g, named, by.lost, sizes, by.bad);
+    if super::checks::opened(g, named, by.lost, sizes, by.bad).is_err() {
+        return None;
+    }
     let number = super::reading::zone_of(g, address);
-    let zones = g.zones;
-    if (first != 0) | (zones <= number) {
-        return not_made();
+    if g.zones <= number {
+        return None;
     }
     let here = super::checks::present_drives(g, named, by.lost);
     let zone = Zone {
@@ -117,11 +103,14 @@ pub fn write_record(
         host: host as usize,
         allowance,
     };
-    let tried = super::write_directly::write_alone(sectors, written, asked, c, buffer, count);
-    recorded_of(asked, tried)
+    match super::write_directly::write_alone(sectors, written, asked, c, buffer, count) {
+        Ok(Some(made)) => Some(recorded_of(asked, made)),
+        Ok(None) => None,
+        Err(_) => None,
+    }
 }
 
-// The read of `count` sectors from an address: the number of its refusal, 0 if none applies, and then the buffer holds them.
+// The read of `count` sectors from an address: accepted, the buffer holds them.
 pub fn read_record(
     sectors: &[u8],
     written: &[u32],
@@ -129,10 +118,10 @@ pub fn read_record(
     address: u64,
     count: u32,
     out: &mut [u8],
-) -> u8
+) -> Result<(), Refusal>
     requires valid { Valid by.geometry }
     requires record_fits { RecordFits by written.now }
-    ensures { ReadBy by address count sectors.now written.now out.old result out.new }
+    ensures { ReadBy by address count sectors.now written.now out.old (number_of result) out.new }
 {
     let g = by.geometry;
     let named = by.named;
@@ -143,14 +132,11 @@ pub fn read_record(
         count: count as u64,
         bytes: out.len(),
     };
-    let first = super::checks::opened(g, named, by.lost, sizes, by.bad);
-    if first != 0 {
-        return first;
-    }
+    super::checks::opened(g, named, by.lost, sizes, by.bad)?;
     let number = super::reading::zone_of(g, address);
     let zones = g.zones;
     if zones <= number {
-        return 8;
+        return Err(Refusal::Address);
     }
     let here = super::checks::present_drives(g, named, by.lost);
     let zone = Zone {

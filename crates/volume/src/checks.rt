@@ -10,9 +10,10 @@ ghost use Rattle.volume.specs.meaning.State.{pointer_in};
 ghost use Rattle.volume.specs.meaning.Refusals.{state_within};
 ghost use Rattle.volume.specs.meaning.Answers.{refused_at};
 ghost use Rattle.volume.specs.meaning.CallContracts.{record_at, view_state, is_set};
+ghost use Rattle.volume.specs.checks.RefusalNumbers.{refusal_number, number_of};
 ghost use Rattle.volume.specs.checks.CheckLaws.{present_list, opening_from, opened_from, Tested};
 
-use super::{Answer, BadPlace, Outcome, State};
+use super::{Answer, BadPlace, Outcome, Refusal, State};
 use tables::{Geometry, MAX_DRIVES};
 
 // Whether no pointer of the state is past its zone's end.
@@ -21,18 +22,7 @@ fn pointers_within(g: Geometry, state: State) -> bool
     ensures { result ≡ all_below (λ (z : ℕ). leb (pointer_in (record_at state z).condition) (zone_sectors g)) g.zones }
 {
     let most = tables::bounds::zone_sectors(g);
-    let n = g.zones;
-    let zones = state.zones;
-    let mut ok = true;
-    let mut z = 0;
-    while z < n {
-        let r = zones[z];
-        let c = r.condition;
-        let p = super::records::pointer_of(c);
-        ok = ok & (p <= most);
-        z += 1;
-    }
-    ok
+    (0..g.zones).all(|z| super::records::pointer_of(state.zones[z].condition) <= most)
 }
 
 // Refusal 1, as far as it is about the state.
@@ -64,26 +54,12 @@ pub fn present_drives(g: Geometry, named: [bool; MAX_DRIVES], lost: usize) -> [b
     ]
 }
 
-fn one_unless(b: bool) -> usize
-    ensures { (result ≡ pick (not b) 1 0) × (result ≤ 1) }
-{
-    if b { 0 } else { 1 }
-}
-
 // How many drives are absent.
 pub fn count_absent(g: Geometry, here: [bool; MAX_DRIVES]) -> usize
     requires { Valid g }
     ensures { result ≡ count_below (λ (d : ℕ). not (is_set here d)) g.drives }
 {
-    let n = g.drives;
-    let mut k = 0;
-    let mut d = 0;
-    while d < n {
-        let m = one_unless(here[d]);
-        k = k + m;
-        d += 1;
-    }
-    k
+    here[..g.drives].iter().filter(|present| !**present).count()
 }
 
 // The first value if b, else the second.
@@ -105,13 +81,11 @@ pub fn left_out(g: Geometry, here: [bool; MAX_DRIVES]) -> usize
     requires { Valid g }
     ensures { result ≡ find_below (λ (d : ℕ). not (is_set here d)) g.drives }
 {
-    let n = g.drives;
     let mut x = 255;
-    let mut d = 0;
-    while d < n {
-        let present = here[d];
-        x = choose(!present, d, x);
-        d += 1;
+    for d in 0..g.drives {
+        if !here[d] {
+            x = d;
+        }
     }
     x
 }
@@ -136,10 +110,16 @@ pub struct Sizes {
     pub bytes: usize,
 }
 
-// Refusals 2 to 4 of a call that passed 1, with tables of pointers of the right lengths; 0 if none applies. `bad`: what refusal 3 found.
-pub fn opened(g: Geometry, named: [bool; MAX_DRIVES], lost: usize, sizes: Sizes, bad: bool) -> u8
+// Refusals 2 to 4 of a call that passed 1, with tables of pointers of the right lengths. `bad`: what refusal 3 found.
+pub fn opened(
+    g: Geometry,
+    named: [bool; MAX_DRIVES],
+    lost: usize,
+    sizes: Sizes,
+    bad: bool,
+) -> Result<(), Refusal>
     requires { Valid g }
-    ensures { result ≡ opened_from g named lost sizes.count sizes.bytes sizes.sectors bad }
+    ensures { number_of result ≡ opened_from g named lost sizes.count sizes.bytes sizes.sectors bad }
 {
     let sectors = sizes.sectors;
     let count = sizes.count;
@@ -148,20 +128,20 @@ pub fn opened(g: Geometry, named: [bool; MAX_DRIVES], lost: usize, sizes: Sizes,
     let buffer = tables::bounds::buffer_fits(g, count, bytes);
     let fit = (sectors == total) & buffer;
     if !fit {
-        return 2;
+        return Err(Refusal::Length);
     }
     if bad {
-        return 3;
+        return Err(Refusal::Pointer);
     }
     let here = present_drives(g, named, lost);
     let absent = count_absent(g, here);
     if 1 < absent {
-        return 4;
+        return Err(Refusal::TwoLost);
     }
-    0
+    Ok(())
 }
 
-// Refusals 1 to 4 of a call with a state; 0 if none applies. `within`: what refusal 1 found.
+// Refusals 1 to 4 of a call with a state. `within`: what refusal 1 found.
 pub fn opening(
     within: bool,
     sizes: Sizes,
@@ -170,43 +150,43 @@ pub fn opening(
     g: Geometry,
     named: [bool; MAX_DRIVES],
     lost: usize,
-) -> u8
+) -> Result<(), Refusal>
     requires { Tested within g }
-    ensures { result ≡ opening_from g named within lost sizes.count sizes.bytes sizes.sectors written.now durable.now }
+    ensures { number_of result ≡ opening_from g named within lost sizes.count sizes.bytes sizes.sectors written.now durable.now }
 {
     if !within {
-        return 1;
+        return Err(Refusal::Geometry);
     }
     let n = tables::bounds::table_cells(g);
     let fit = (written.len() == n) & (durable.len() == n);
     if !fit {
-        return 2;
+        return Err(Refusal::Length);
     }
     let bad = tables::bounds::pointers_bad(written, durable, g, named);
     opened(g, named, lost, sizes, bad)
 }
 
 // A refused call hands the state back as it was.
-pub fn refused(number: u8, state: State) -> Outcome
-    ensures { result ≡ record { answer = Refused number; state = state } }
+pub fn refused(refusal: Refusal, state: State) -> Outcome
+    ensures { result ≡ record { answer = Refused (refusal_number refusal); state = state } }
 {
     Outcome {
-        answer: Answer::Refused(number),
+        answer: Answer::Refused(refusal.number()),
         state,
     }
 }
 
-// A look or a mount that is refused: by row 6 it tells the first bad place, by any other its number.
-pub fn refused_at(number: u8, bad: BadPlace, state: State) -> Outcome
-    ensures { result ≡ record { answer = refused_at bad number; state = state } }
+// A look or a mount that is refused: for a log it tells the first bad place, else its number.
+pub fn refused_at(refusal: Refusal, bad: BadPlace, state: State) -> Outcome
+    ensures { result ≡ record { answer = refused_at bad (refusal_number refusal); state = state } }
 {
-    if number == 6 {
-        return Outcome {
+    match refusal {
+        Refusal::Log => Outcome {
             answer: Answer::BadLog(bad),
             state,
-        };
+        },
+        _ => refused(refusal, state),
     }
-    refused(number, state)
 }
 
 // The budget of a call that may make `count` stores: one more (specs: `Made`).

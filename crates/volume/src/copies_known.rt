@@ -57,21 +57,13 @@ pub fn copies_gone(
     requires copies_ready { CopiesReady g here sectors.now pointers.now generations.now points.now × (drive < g.drives) }
     ensures { result ≡ gone_for_copies g (is_set here) (in_force_of g (is_set here) (read_device g sectors.now pointers.now) generations.now points.now) (read_device g sectors.now pointers.now) drive }
 {
-    let n = g.zones;
-    let mut gone = false;
-    let mut z = 0;
-    while z < n {
-        let generation = generations[z];
+    (0..g.zones).any(|z| {
         let zone = Zone {
             geometry: g,
             here,
             number: z,
-            generation,
+            generation: generations[z],
         };
-        let pointer = points[z];
-        let one = zone_gone(sectors, pointers, zone, drive, pointer);
-        gone = gone | one;
-        z += 1;
-    }
-    gone
+        zone_gone(sectors, pointers, zone, drive, points[z])
+    })
 }

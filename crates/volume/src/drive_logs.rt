@@ -23,7 +23,7 @@ pub fn zone_pointer(written: &[u32], g: Geometry, drive: usize, zone: usize) -> 
     let at = tables::stores::cell_of(g, drive, zone);
     let n = tables::bounds::widen(written[at]);
     let c = g.capacity;
-    tables::placement::min(n, c)
+    n.min(c)
 }
 
 // The log in a physical zone of a drive.

@@ -28,6 +28,7 @@ fn said_by(sectors: &[u8], written: &[u32], g: Geometry, named: bool, drive: usi
 }
 
 // What each drive says.
+#[tactic(auto, unfolding(crate::specs::looking::DrivesLost::said_list))]
 fn said_lost(
     sectors: &[u8],
     written: &[u32],
@@ -38,13 +39,9 @@ fn said_lost(
     requires sized { Sized g sectors.now written.now }
     ensures { result ≡ said_list g named (read_device g sectors.now written.now) }
 {
-    let n = g.drives;
     let mut said = [255usize; MAX_DRIVES];
-    let mut d = 0;
-    while d < n {
-        let x = said_by(sectors, written, g, named[d], d);
-        said[d] = x;
-        d += 1;
+    for d in 0..g.drives {
+        said[d] = said_by(sectors, written, g, named[d], d);
     }
     said
 }
@@ -54,17 +51,11 @@ fn is_said(g: Geometry, said: [usize; MAX_DRIVES], d: usize) -> bool
     requires { Valid g }
     ensures { result ≡ said_of g said d }
 {
-    let n = g.drives;
-    let mut lost = false;
-    let mut e = 0;
-    while e < n {
-        lost = lost | (said[e] == d);
-        e += 1;
-    }
-    lost
+    said[..g.drives].contains(&d)
 }
 
 // The drives present: named, and said to be lost by no named drive.
+#[tactic(auto, using(crate::specs::looking::DrivesLost::look_present_is))]
 pub fn look_present(
     sectors: &[u8],
     written: &[u32],
@@ -75,14 +66,11 @@ pub fn look_present(
     requires sized { Sized g sectors.now written.now }
     ensures { is_set result ≡ is_present g (is_set named) (read_device g sectors.now written.now) }
 {
-    let n = g.drives;
     let said = said_lost(sectors, written, g, named);
     let mut here = [false; MAX_DRIVES];
-    let mut d = 0;
-    while d < n {
+    for d in 0..g.drives {
         let lost = is_said(g, said, d);
         here[d] = named[d] & !lost;
-        d += 1;
     }
     here
 }
@@ -119,15 +107,7 @@ fn other_array(
     requires sized { Sized g sectors.now written.now }
     ensures { result ≡ any_below (λ (e : ℕ). is_set here e && not (eqb array (array_in (general_heads g (read_device g sectors.now written.now) e)))) g.drives }
 {
-    let n = g.drives;
-    let mut other = false;
-    let mut e = 0;
-    while e < n {
-        let b = array_differs(sectors, written, g, here[e], e, array);
-        other = other | b;
-        e += 1;
-    }
-    other
+    (0..g.drives).any(|e| array_differs(sectors, written, g, here[e], e, array))
 }
 
 // Refusal 5 for one drive: present, but its log does not begin with a label, or another begins with another array number.
@@ -158,15 +138,7 @@ pub fn labels_bad(sectors: &[u8], written: &[u32], g: Geometry, here: [bool; MAX
     requires sized { Sized g sectors.now written.now }
     ensures { result ≡ bad_labels g (is_set here) (read_device g sectors.now written.now) }
 {
-    let n = g.drives;
-    let mut bad = false;
-    let mut d = 0;
-    while d < n {
-        let b = label_bad(sectors, written, g, here, d);
-        bad = bad | b;
-        d += 1;
-    }
-    bad
+    (0..g.drives).any(|d| label_bad(sectors, written, g, here, d))
 }
 
 // The last present drive, or 255.
@@ -174,12 +146,11 @@ fn last_present(g: Geometry, here: [bool; MAX_DRIVES]) -> usize
     requires { Valid g }
     ensures { result ≡ find_below (is_set here) g.drives }
 {
-    let n = g.drives;
     let mut x = 255;
-    let mut d = 0;
-    while d < n {
-        x = super::checks::choose(here[d], d, x);
-        d += 1;
+    for d in 0..g.drives {
+        if here[d] {
+            x = d;
+        }
     }
     x
 }

@@ -143,13 +143,9 @@ fn copy_headers(
     requires copying { Copying false e pointers.now sectors.old written.old × (e.from.zones ≤ length generations.now) }
     ensures { MadeAppends e.to budget result (headers_on e (copies_below e.from kind generations.now (old_heads e sectors.old pointers.now) e.from.zones)) sectors.old written.old sectors.new written.new }
 {
-    let n = e.from.zones;
     let mut rest = budget;
-    let mut z = 0;
-    while z < n {
-        let generation = generations[z];
-        rest = copy_header(kind, sectors, written, pointers, e, z, generation, rest);
-        z += 1;
+    for z in 0..e.from.zones {
+        rest = copy_header(kind, sectors, written, pointers, e, z, generations[z], rest);
     }
     rest
 }
@@ -230,15 +226,11 @@ fn count_copies(
     requires in_log { InLog g log.drive log.zone log.written sectors.now × (g.zones ≤ length generations.now) }
     ensures { (result ≡ length (copies_below g kind generations.now (log_heads g log.drive false log.zone log.written sectors.now) g.zones)) × (result ≤ 16) }
 {
-    let n = g.zones;
     let mut count = 0;
-    let mut z = 0;
-    while z < n {
-        let generation = generations[z];
-        let due = copy_due(kind, sectors, g, log, z, generation);
-        let more = super::checks::choose(due, 1, 0);
-        count = count + more;
-        z += 1;
+    for z in 0..g.zones {
+        if copy_due(kind, sectors, g, log, z, generations[z]) {
+            count += 1;
+        }
     }
     count
 }

@@ -50,7 +50,7 @@ pub fn entry_size(g: Geometry, pointer: usize) -> usize
 {
     let k = tables::bounds::stripe_sectors(g);
     let s = pointer / k;
-    let rows = tables::placement::min(pointer - s * k, g.unit);
+    let rows = (pointer - s * k).min(g.unit);
     1 + rows
 }
 
@@ -73,14 +73,9 @@ pub fn parity_size(g: Geometry, drive: usize, points: &[usize]) -> usize
     requires pointers_within { PointersWithin g points.now }
     ensures { result ≡ new_parity_size g (by_pointers points.now) drive }
 {
-    let n = g.zones;
     let mut total = 0;
-    let mut z = 0;
-    while z < n {
-        let pointer = points[z];
-        let size = copy_size(g, drive, z, pointer);
-        total = total + size;
-        z += 1;
+    for z in 0..g.zones {
+        total += copy_size(g, drive, z, points[z]);
     }
     total + 1
 }
@@ -128,10 +123,8 @@ fn copy_run(
     ensures { MadeAppends e.to budget result (rows_if true e.drive parity_zone (sector_at e.from sectors.old e.drive parity_zone) first m) sectors.old written.old sectors.new written.new }
 {
     let mut rest = budget;
-    let mut n = first;
-    while n < m {
+    for n in first..m {
         rest = copy_sector(sectors, written, e, n, rest);
-        n += 1;
     }
     rest
 }
@@ -157,7 +150,7 @@ fn append_made_rows(
     let k = tables::bounds::stripe_sectors(from);
     let s = pointer / k;
     let u = from.unit;
-    let m = tables::placement::min(pointer - s * k, u);
+    let m = (pointer - s * k).min(u);
     let limit = super::knowing::seal_limit(sectors, pointers, from, here, z, generation);
     let known = Extent {
         geometry: from,
@@ -273,19 +266,14 @@ pub fn copy_parity(
     requires parity_copying { ParityCopying e generations.now points.now pointers.now starts.now sectors.old written.old }
     ensures { MadeAppends e.to budget result (entries_on e (copied_entries e generations.now points.now pointers.now starts.now sectors.old)) sectors.old written.old sectors.new written.new }
 {
-    let n = e.from.zones;
     let mut rest = budget;
-    let mut z = 0;
-    while z < n {
-        let generation = generations[z];
-        let pointer = points[z];
+    for z in 0..e.from.zones {
         let point = ZonePoint {
             number: z,
-            generation,
-            pointer,
+            generation: generations[z],
+            pointer: points[z],
         };
         rest = copy_entry(sectors, written, pointers, starts, e, point, rest);
-        z += 1;
     }
     rest
 }

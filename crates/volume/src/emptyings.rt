@@ -74,10 +74,8 @@ pub fn empty_generals(
     ensures { Made all.to budget result (each_below (λ d. emptied_on all false (new_general_on all generations.now sectors.old pointers.now d) d) all.from.drives)
         (tables_of sectors.old written.old durable.old) (tables_of sectors.new written.new durable.new) }
 {
-    let n = all.from.drives;
     let mut rest = budget;
-    let mut d = 0;
-    while d < n {
+    for d in 0..all.from.drives {
         rest = empty_general_on(
             sectors,
             written,
@@ -88,7 +86,6 @@ pub fn empty_generals(
             d,
             rest,
         );
-        d += 1;
     }
     rest
 }
@@ -189,10 +186,8 @@ pub fn empty_parities(
     ensures { ParitiesEmptied all generations.now points.now pointers.now starts.now budget result
         (tables_of sectors.old written.old durable.old) (tables_of sectors.new written.new durable.new) }
 {
-    let n = all.from.drives;
     let mut rest = budget;
-    let mut d = 0;
-    while d < n {
+    for d in 0..all.from.drives {
         rest = empty_parity_at(
             sectors,
             written,
@@ -205,7 +200,6 @@ pub fn empty_parities(
             d,
             rest,
         );
-        d += 1;
     }
     rest
 }

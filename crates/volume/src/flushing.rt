@@ -24,13 +24,9 @@ pub fn flush_all(
     requires written_len { (length written.now ≡ cells g) × (length durable.old ≡ cells g) }
     ensures { MadePointers g budget result (flush_stores g (is_set here)) written.now durable.old written.now durable.new }
 {
-    let n = g.drives;
     let mut rest = budget;
-    let mut d = 0;
-    while d < n {
-        let present = here[d];
-        rest = tables::stores::flush_counted(written, durable, g, present, d, rest);
-        d += 1;
+    for d in 0..g.drives {
+        rest = tables::stores::flush_counted(written, durable, g, here[d], d, rest);
     }
     rest
 }
@@ -71,9 +67,8 @@ pub fn flush(
         count: 0,
         bytes: 0,
     };
-    let first = super::checks::opening(within, sizes, written, durable, g, named, lost);
-    if first != 0 {
-        return super::checks::refused(first, state);
+    if let Err(refusal) = super::checks::opening(within, sizes, written, durable, g, named, lost) {
+        return super::checks::refused(refusal, state);
     }
     let here = super::checks::present_drives(g, named, lost);
     let budget = count as u64 + 1;

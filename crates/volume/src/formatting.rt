@@ -5,38 +5,39 @@ ghost use Rattle.tables.specs.meaning.Geometry.{Valid, physical_zones, cells, to
 ghost use Rattle.tables.specs.meaning.Phases.{on_present};
 ghost use Rattle.tables.specs.meaning.Tables.{tables_of};
 ghost use Rattle.tables.specs.laws.Made.{Made, MadeAppends, MadePointers};
+ghost use Rattle.volume.specs.checks.RefusalNumbers.{number_of};
 ghost use Rattle.volume.specs.meaning.State.{with_shares};
 ghost use Rattle.volume.specs.meaning.Calls.{format_stores, format_state};
 ghost use Rattle.volume.specs.meaning.Hosts.{fresh_shares};
 ghost use Rattle.volume.specs.meaning.CallContracts.{is_set, format_on, state_held};
 ghost use Rattle.volume.specs.storing.Formatting.{format_number, drive_resets, drive_entries, resets_if, entries_if};
 
-use super::{Condition, Outcome, Owner, State, ZoneRecord};
+use super::{Condition, Outcome, Owner, Refusal, State, ZoneRecord};
 use tables::{Geometry, MAX_DRIVES, MAX_ZONES};
 
-// Refusals 1 to 4, of a call that has no state yet; 0 if none applies.
+// Refusals 1 to 4, of a call that has no state yet.
 fn format_refusal(
     sectors: usize,
     written: &[u32],
     durable: &[u32],
     g: Geometry,
     named: [bool; MAX_DRIVES],
-) -> u8
-    ensures { result ≡ format_number g named sectors written.now durable.now }
+) -> Result<(), Refusal>
+    ensures { number_of result ≡ format_number g named sectors written.now durable.now }
 {
     if !tables::bounds::valid(g) {
-        return 1;
+        return Err(Refusal::Geometry);
     }
     if !tables::bounds::lengths_fit(g, sectors, written.len(), durable.len()) {
-        return 2;
+        return Err(Refusal::Length);
     }
     if tables::bounds::pointers_bad(written, durable, g, named) {
-        return 3;
+        return Err(Refusal::Pointer);
     }
     if 1 < super::checks::count_absent(g, named) {
-        return 4;
+        return Err(Refusal::TwoLost);
     }
-    0
+    Ok(())
 }
 
 // Every physical zone of a drive reset, if it is here.
@@ -52,12 +53,9 @@ fn reset_drive(
     requires drive_lt_drives { (drive < g.drives) × (length written.old ≡ cells g) × (length durable.old ≡ cells g) }
     ensures { MadePointers g budget result (resets_if here drive (physical_zones g)) written.old durable.old written.new durable.new }
 {
-    let n = g.zones + 3;
     let mut rest = budget;
-    let mut y = 0;
-    while y < n {
+    for y in 0..g.zones + tables::DATA_ZONES {
         rest = tables::stores::reset_counted(written, durable, g, here, drive, y, rest);
-        y += 1;
     }
     rest
 }
@@ -74,13 +72,9 @@ fn reset_drives(
     requires written_len { (length written.old ≡ cells g) × (length durable.old ≡ cells g) }
     ensures { MadePointers g budget result (on_present (is_set here) (each_below (drive_resets g) g.drives)) written.old durable.old written.new durable.new }
 {
-    let n = g.drives;
     let mut rest = budget;
-    let mut d = 0;
-    while d < n {
-        let present = here[d];
-        rest = reset_drive(written, durable, g, present, d, rest);
-        d += 1;
+    for d in 0..g.drives {
+        rest = reset_drive(written, durable, g, here[d], d, rest);
     }
     rest
 }
@@ -119,13 +113,9 @@ fn label_drives(
     requires lost_bound { (lost < 256) × (length sectors.old ≡ total_bytes g) × (length written.old ≡ cells g) }
     ensures { MadeAppends g budget result (on_present (is_set here) (each_below (drive_entries g lost array) g.drives)) sectors.old written.old sectors.new written.new }
 {
-    let n = g.drives;
     let mut rest = budget;
-    let mut d = 0;
-    while d < n {
-        let present = here[d];
-        rest = label_drive(sectors, written, g, present, d, lost, array, rest);
-        d += 1;
+    for d in 0..g.drives {
+        rest = label_drive(sectors, written, g, here[d], d, lost, array, rest);
     }
     rest
 }
@@ -153,27 +143,23 @@ fn format_stores(
 
 // The state that a finished format hands on: every zone empty, of generation 1 and nobody's, the records past the last zone blank; and the hosts' shares of
 // empty logs.
+#[tactic(auto, using(crate::specs::laws::StateHeld::records_none))]
 fn fresh_state(g: Geometry, here: [bool; MAX_DRIVES], lost: usize) -> State
     requires { Valid g }
     ensures { result ≡ state_held g.zones (with_shares (fresh_shares g (is_set here)) (format_state lost)) }
 {
-    let n = g.zones;
-    let blank = super::records::blank_record();
-    let shares = super::shares::fresh_shares(g, here);
-    let mut zones = [blank; MAX_ZONES];
-    let mut z = 0;
-    while z < n {
+    let mut zones = [super::records::blank_record(); MAX_ZONES];
+    for z in 0..g.zones {
         zones[z] = ZoneRecord {
             generation: 1,
             condition: Condition::Empty,
             owner: Owner::Nobody,
         };
-        z += 1;
     }
     State {
         lost,
         zones,
-        shares,
+        shares: super::shares::fresh_shares(g, here),
     }
 }
 
@@ -191,8 +177,7 @@ pub fn format(
     ensures { (result ≡ (format_on g named array old count (tables_of sectors.old written.old durable.old)).outcome)
         × (tables_of sectors.new written.new durable.new ≡ (format_on g named array old count (tables_of sectors.old written.old durable.old)).tables) }
 {
-    let refusal = format_refusal(sectors.len(), written, durable, g, named);
-    if refusal != 0 {
+    if let Err(refusal) = format_refusal(sectors.len(), written, durable, g, named) {
         return super::checks::refused(refusal, old);
     }
     let here = super::checks::present_drives(g, named, 255);

@@ -7,9 +7,9 @@ ghost use Rattle.volume.specs.meaning.State.{owner_of, is_owner, share_at};
 ghost use Rattle.volume.specs.meaning.Hosts.{limit_of};
 ghost use Rattle.volume.specs.meaning.CallContracts.{view_state};
 ghost use Rattle.volume.specs.laws.StateHeld.{shares_less};
-ghost use Rattle.volume.specs.writing.Allowances.{counts_within, counts_at, adds_at, open_zones_of, limit_number, host_number, allowance_of};
+ghost use Rattle.volume.specs.writing.Allowances.{counts_within, counts_at, adds_at, open_zones_of, limits_at, host_limits, allowance_of};
 
-use super::{Condition, HOSTS, MAX_SHARES, Owner, State, ZoneRecord};
+use super::{Condition, HOSTS, MAX_SHARES, Owner, Refusal, State, ZoneRecord};
 use tables::Geometry;
 
 // So many zones the hosts may hold open together; so many host 0, and so many host 1.
@@ -19,12 +19,12 @@ pub const MOST_OF_HOST_0: usize = 14;
 
 pub const MOST_OF_HOST_1: usize = 4;
 
-// What a write's host may do: whether there is such a host; refusal 18 or 19, 0 if neither applies; and what is left of its share of the drive that gets
-// the entry. A write that would leave its zone, or has no host, is refused before these are asked: then refusal and share are 0.
+// What a write's host may do: whether there is such a host; refusal 18 or 19; and what is left of its share of the drive that gets
+// the entry. A write that would leave its zone, or has no host, is refused before these are asked: then neither applies, and the share is 0.
 #[derive(Clone, Copy)]
 pub struct Allowance {
     pub known: bool,
-    pub refusal: u8,
+    pub limits: Result<(), Refusal>,
     pub share: usize,
 }
 
@@ -86,31 +86,22 @@ pub fn adds_zone(r: ZoneRecord, most: usize, host: usize, end: usize) -> bool
     (end < most) & !own
 }
 
-fn one_if(b: bool) -> usize
-    ensures { (result ≡ pick b 1 0) × (result ≤ 1) }
-{
-    if b { 1 } else { 0 }
-}
-
 // The zones that count.
 fn open_zones(g: Geometry, state: State, host: usize) -> OpenZones
     requires { Valid g }
     ensures { result ≡ open_zones_of g (view_state state) host }
 {
     let most = tables::bounds::zone_sectors(g);
-    let n = g.zones;
-    let zones = state.zones;
     let mut own = 0;
     let mut all = 0;
-    let mut z = 0;
-    while z < n {
-        let r = zones[z];
-        let c = r.condition;
-        let mine = counts_to(r, most, host);
-        let counted = counts(c, most);
-        own = own + one_if(mine);
-        all = all + one_if(counted);
-        z += 1;
+    for z in 0..g.zones {
+        let zone = state.zones[z];
+        if counts_to(zone, most, host) {
+            own += 1;
+        }
+        if counts(zone.condition, most) {
+            all += 1;
+        }
     }
     OpenZones { own, all }
 }
@@ -125,34 +116,34 @@ fn limit_of(host: usize) -> usize
     MOST_OF_HOST_1
 }
 
-// Refusals 18 and 19 of a write that gives its host one zone more, by those that count; 0 if neither applies. `counted`: whether its zone counts already.
-pub fn limit_refusal(host: usize, zones: OpenZones, counted: bool) -> u8
-    ensures { result ≡ limit_number host zones counted }
+// Refusals 18 and 19 of a write that gives its host one zone more, by those that count. `counted`: whether its zone counts already.
+pub fn limit_refusal(host: usize, zones: OpenZones, counted: bool) -> Result<(), Refusal>
+    ensures { result ≡ limits_at host zones counted }
 {
     let limit = limit_of(host);
     let own = zones.own;
     let all = zones.all;
     if limit <= own {
-        return 18;
+        return Err(Refusal::HostLimit);
     }
     if !counted & (MOST_OPEN <= all) {
-        return 19;
+        return Err(Refusal::OpenLimit);
     }
-    0
+    Ok(())
 }
 
-// Refusals 18 and 19 of a write by a host that ends at a pointer of zone z; 0 if neither applies.
-fn host_refusal(g: Geometry, state: State, host: usize, z: usize, end: usize) -> u8
+// Refusals 18 and 19 of a write by a host that ends at a pointer of zone z.
+fn host_refusal(g: Geometry, state: State, host: usize, z: usize, end: usize) -> Result<(), Refusal>
     requires valid { Valid g }
     requires z_lt_zones { z < g.zones }
-    ensures { result ≡ host_number g (view_state state) host z end }
+    ensures { result ≡ host_limits g (view_state state) host z end }
 {
     let most = tables::bounds::zone_sectors(g);
     let zones = state.zones;
     let r = zones[z];
     let adds = adds_zone(r, most, host, end);
     if !adds {
-        return 0;
+        return Ok(());
     }
     let c = r.condition;
     let counted = counts(c, most);
@@ -204,18 +195,18 @@ pub fn allowance_of(g: Geometry, state: State, host: usize, z: usize, end: usize
     if !asked {
         return Allowance {
             known,
-            refusal: 0,
+            limits: Ok(()),
             share: 0,
         };
     }
-    let refusal = host_refusal(g, state, host, z, end);
+    let limits = host_refusal(g, state, host, z, end);
     let entry = super::write_room::entry_drive(g, z, end);
     let at = share_place(entry.drive, host);
     let shares = state.shares;
     let share = shares[at] as usize;
     Allowance {
         known,
-        refusal,
+        limits,
         share,
     }
 }

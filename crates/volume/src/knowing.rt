@@ -61,6 +61,7 @@ fn seal_of(sectors: &[u8], written: &[u32], zone: Zone, d: usize, most: usize) -
 }
 
 // The least current seal of a zone; its length if there is none.
+#[tactic(auto, unfolding(crate::specs::meaning::Rules::seal_limit))]
 pub fn seal_limit(
     sectors: &[u8],
     written: &[u32],
@@ -79,12 +80,9 @@ pub fn seal_limit(
         number: z,
         generation,
     };
-    let n = g.drives;
     let mut limit = tables::bounds::zone_sectors(g);
-    let mut d = 0;
-    while d < n {
+    for d in 0..g.drives {
         limit = seal_of(sectors, written, zone, d, limit);
-        d += 1;
     }
     limit
 }
@@ -135,14 +133,7 @@ pub fn all_held(
     requires z_lt_zones { (z < g.zones) × (length written.now ≡ cells g) × (offset + count ≤ zone_sectors g) }
     ensures { result ≡ all_held g here written.now z offset count }
 {
-    let mut ok = true;
-    let mut i = 0;
-    while i < count {
-        let held = own_held(written, g, here, z, offset + i);
-        ok = ok & held;
-        i += 1;
-    }
-    ok
+    (offset..offset + count).all(|a| own_held(written, g, here, z, a))
 }
 
 // The parity drive of the stripe of address a.
@@ -190,17 +181,15 @@ fn unit_index(g: Geometry, a: usize) -> usize
 }
 
 // The first address in the row of a, its own left out, that is not held; the stripe's end if all are held.
+#[tactic(auto, unfolding(crate::specs::looking::Knowing::reach_of))]
 fn reach_of(written: &[u32], g: Geometry, here: [bool; MAX_DRIVES], z: usize, a: usize) -> usize
     requires valid { Valid g }
     requires z_lt_zones { (z < g.zones) × (a < zone_sectors g) × (length written.now ≡ cells g) }
     ensures { result ≡ reach_of g here written.now z a }
 {
-    let n = g.drives - 1;
     let mut reach = stripe_end(g, a);
-    let mut k = 0;
-    while k < n {
+    for k in 0..g.drives - 1 {
         reach = reach_past(written, g, here, z, a, k, reach);
-        k += 1;
     }
     reach
 }
@@ -228,7 +217,7 @@ fn reach_past(
         return reach;
     }
     let b = row_address(g, a, k);
-    tables::placement::min(reach, b)
+    reach.min(b)
 }
 
 // The place, counted from 1, of the last entry that serves address a; 0 if there is none.
@@ -244,7 +233,7 @@ fn serving_place(sectors: &[u8], written: &[u32], zone: Zone, limit: usize, a: u
         return 0;
     }
     let reach = reach_of(written, zone.geometry, here, zone.number, a);
-    let high = tables::placement::min(limit, reach);
+    let high = limit.min(reach);
     let at = tables::stores::cell_of(zone.geometry, p, logs::PARITY_LOG);
     let n = tables::bounds::widen(written[at]);
     let log = logs::Log {

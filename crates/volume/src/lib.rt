@@ -85,6 +85,28 @@ pub struct Zone {
     pub generation: u64,
 }
 
+// Why a call is refused (document 01, "Refusals"); `number` gives the documents' number.
+#[derive(Clone, Copy, Debug, PartialEq, Eq)]
+pub enum Refusal {
+    Geometry,
+    Length,
+    Pointer,
+    TwoLost,
+    Label,
+    Log,
+    Stale,
+    Address,
+    Run,
+    Order,
+    Sealed,
+    Worn,
+    Unwritten,
+    LogFull,
+    Gone,
+    HostLimit,
+    OpenLimit,
+}
+
 // A bad place of a log: its number, 6, 16 or 17 (logs' `Fault`), 0 if there is none; its drive, physical zone and sector.
 #[derive(Clone, Copy)]
 pub struct BadPlace {

@@ -158,7 +158,7 @@ fn room_unsized(
 fn with_size(room: DriveRoom, capacity: usize, limit: usize, size: usize) -> DriveRoom
     ensures { result ≡ pick (ltb (capacity - size) limit) (drive_room_of true true 0) room }
 {
-    let left = tables::placement::saturating_sub(capacity, size);
+    let left = capacity.saturating_sub(size);
     if left < limit {
         return DriveRoom {
             lacks: true,
@@ -238,13 +238,10 @@ pub fn general_room(
     requires asking { Asking asked sectors.now written.now pointers.now × (asked.first.zones ≤ length generations.now) }
     ensures { result ≡ room_of (general_room_at asked generations.now sectors.now written.now pointers.now) asked.first.drives }
 {
-    let n = asked.first.drives;
     let mut all = no_answers();
-    let mut d = 0;
-    while d < n {
+    for d in 0..asked.first.drives {
         let room = general_on(sectors, written, pointers, asked, generations, d);
         all = with_answer(all, d, room);
-        d += 1;
     }
     all
 }
@@ -305,13 +302,10 @@ pub fn parity_room(
     requires asking { Asking asked sectors.now written.now pointers.now × PointersWithin asked.first points.now }
     ensures { result ≡ room_of (parity_room_at asked points.now sectors.now written.now pointers.now) asked.first.drives }
 {
-    let n = asked.first.drives;
     let mut all = no_answers();
-    let mut d = 0;
-    while d < n {
+    for d in 0..asked.first.drives {
         let room = parity_on(sectors, written, pointers, asked, points, d);
         all = with_answer(all, d, room);
-        d += 1;
     }
     all
 }

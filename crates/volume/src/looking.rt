@@ -3,6 +3,7 @@ ghost use Rattle.std.specs.Prelude.{◌≡◌, not, ℕ, length};
 ghost use Rattle.tables.specs.meaning.Drives.{find_below};
 ghost use Rattle.tables.specs.meaning.Geometry.{Valid, cells};
 ghost use Rattle.tables.specs.meaning.Tables.{tables_of, zone_place};
+ghost use Rattle.volume.specs.checks.RefusalNumbers.{number_of};
 ghost use Rattle.volume.specs.meaning.CallContracts.{is_set, look_on};
 ghost use Rattle.volume.specs.meaning.Refusals.{first_bad_place};
 ghost use Rattle.volume.specs.meaning.Rules.{showing, zone_shown};
@@ -14,38 +15,40 @@ ghost use Rattle.volume.specs.looking.ShownState.{HereBelow, state_seen};
 ghost use Rattle.volume.specs.looking.Surveying.{Surveyed};
 
 use super::roles::LogPlaces;
-use super::{Answer, BadPlace, Condition, Look, Outcome, Owner, State, ZoneLook, ZoneRecord};
+use super::{
+    Answer, BadPlace, Condition, Look, Outcome, Owner, Refusal, State, ZoneLook, ZoneRecord,
+};
 use tables::{Geometry, MAX_CELLS, MAX_DRIVES, MAX_ZONES};
 
-// What a look goes by: where the logs lie, which drives are present, the refusal by their logs (4 to 6; 0 if none applies), and the first bad place.
+// What a look goes by: where the logs lie, which drives are present, the refusal by their logs (4 to 6), and the first bad place.
 #[derive(Clone, Copy)]
 pub struct Survey {
     pub places: LogPlaces,
     pub here: [bool; MAX_DRIVES],
-    pub refusal: u8,
+    pub refusal: Result<(), Refusal>,
     pub bad: BadPlace,
 }
 
-// Refusals 1 to 3, of a call that is handed no state; 0 if none applies.
+// Refusals 1 to 3, of a call that is handed no state.
 pub fn shape_refusal(
     sectors: usize,
     written: &[u32],
     durable: &[u32],
     g: Geometry,
     named: [bool; MAX_DRIVES],
-) -> u8
-    ensures { result ≡ shape_number g named sectors written.now durable.now }
+) -> Result<(), Refusal>
+    ensures { number_of result ≡ shape_number g named sectors written.now durable.now }
 {
     if !tables::bounds::valid(g) {
-        return 1;
+        return Err(Refusal::Geometry);
     }
     if !tables::bounds::lengths_fit(g, sectors, written.len(), durable.len()) {
-        return 2;
+        return Err(Refusal::Length);
     }
     if tables::bounds::pointers_bad(written, durable, g, named) {
-        return 3;
+        return Err(Refusal::Pointer);
     }
-    0
+    Ok(())
 }
 
 // Whether a present drive lacks a kind of log.
@@ -53,45 +56,35 @@ fn kind_lacks(places: LogPlaces, here: [bool; MAX_DRIVES]) -> bool
     requires { Valid places.geometry }
     ensures { result ≡ kind_lacks_on places here }
 {
-    let no_general = places.no_general;
-    let no_parity = places.no_parity;
-    let n = places.geometry.drives;
-    let mut lacks = false;
-    let mut d = 0;
-    while d < n {
-        lacks = lacks | (here[d] & (no_general[d] | no_parity[d]));
-        d += 1;
-    }
-    lacks
+    (0..places.geometry.drives).any(|d| here[d] && (places.no_general[d] || places.no_parity[d]))
 }
 
-// Refusals 4 to 6, by the drives that rule 1 leaves present and their first bad place; 0 if none applies.
+// Refusals 4 to 6, by the drives that rule 1 leaves present and their first bad place.
 fn log_refusal(
     sectors: &[u8],
     written: &[u32],
     places: LogPlaces,
     here: [bool; MAX_DRIVES],
     bad: BadPlace,
-) -> u8
+) -> Result<(), Refusal>
     requires valid { Valid places.geometry }
     requires sized { Sized places.geometry sectors.now written.now
         × (bad ≡ first_bad_place places.geometry (is_set here) (zone_place places.geometry) (read_device places.geometry sectors.now written.now)) }
-    ensures { result ≡ log_number places here (read_device places.geometry sectors.now written.now) }
+    ensures { number_of result ≡ log_number places here (read_device places.geometry sectors.now written.now) }
 {
     if 1 < super::checks::count_absent(places.geometry, here) {
-        return 4;
+        return Err(Refusal::TwoLost);
     }
     if kind_lacks(places, here) {
-        return 5;
+        return Err(Refusal::Label);
     }
     if super::drives_lost::labels_bad(sectors, written, places.geometry, here) {
-        return 5;
+        return Err(Refusal::Label);
     }
-    let number = bad.number;
-    if number != 0 {
-        return 6;
+    if bad.number != 0 {
+        return Err(Refusal::Log);
     }
-    0
+    Ok(())
 }
 
 // What a look goes by, in tables that passed refusals 1 to 3. It leaves the written pointers by which the tables are the device by its roles.
@@ -119,6 +112,7 @@ pub fn survey_drives(
 }
 
 // What is shown of every zone; those past the last are blank.
+#[tactic(auto, unfolding(crate::specs::looking::Looking::looks_from))]
 fn look_zones(
     sectors: &[u8],
     written: &[u32],
@@ -129,7 +123,6 @@ fn look_zones(
     requires lookable { Lookable g here sectors.now written.now }
     ensures { result ≡ looks_from g (zone_shown g (is_set here) (read_device g sectors.now written.now)) }
 {
-    let n = g.zones;
     let blank = ZoneLook {
         generation: 0,
         condition: Condition::Empty,
@@ -138,11 +131,8 @@ fn look_zones(
         clean: false,
     };
     let mut zones = [blank; MAX_ZONES];
-    let mut z = 0;
-    while z < n {
-        let shown = super::zone_looking::look_zone(sectors, written, g, here, z);
-        zones[z] = shown;
-        z += 1;
+    for z in 0..g.zones {
+        zones[z] = super::zone_looking::look_zone(sectors, written, g, here, z);
     }
     zones
 }
@@ -160,24 +150,18 @@ pub fn look_all(sectors: &[u8], written: &[u32], g: Geometry, here: [bool; MAX_D
 }
 
 // The records of the zones that a look shows: nobody's.
+#[tactic(auto, using(crate::specs::laws::StateHeld::records_none))]
 fn records_of(g: Geometry, shown: [ZoneLook; MAX_ZONES]) -> [ZoneRecord; MAX_ZONES]
     requires { Valid g }
     ensures { result ≡ records_of g shown }
 {
-    let n = g.zones;
-    let blank = super::records::blank_record();
-    let mut zones = [blank; MAX_ZONES];
-    let mut z = 0;
-    while z < n {
-        let s = shown[z];
-        let generation = s.generation;
-        let condition = s.condition;
+    let mut zones = [super::records::blank_record(); MAX_ZONES];
+    for z in 0..g.zones {
         zones[z] = ZoneRecord {
-            generation,
-            condition,
+            generation: shown[z].generation,
+            condition: shown[z].condition,
             owner: Owner::Nobody,
         };
-        z += 1;
     }
     zones
 }
@@ -216,15 +200,13 @@ pub fn look(
 ) -> Outcome
     ensures { result ≡ look_on g named old (tables_of sectors.now written.now durable.now) }
 {
-    let shape = shape_refusal(sectors.len(), written, durable, g, named);
-    if shape != 0 {
-        return super::checks::refused(shape, old);
+    if let Err(refusal) = shape_refusal(sectors.len(), written, durable, g, named) {
+        return super::checks::refused(refusal, old);
     }
     let cells = written.len();
     let mut pointers = [0u32; MAX_CELLS];
     let found = survey_drives(sectors, written, &mut pointers[..cells], g, named);
-    let refusal = found.refusal;
-    if refusal != 0 {
+    if let Err(refusal) = found.refusal {
         return super::checks::refused_at(refusal, found.bad, old);
     }
     let here = found.here;

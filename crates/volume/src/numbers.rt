@@ -3,8 +3,36 @@ ghost use Rattle.std.specs.Prelude.{◌≡◌};
 ghost use Rattle.volume.specs.meaning.State.{condition_number, condition_of_number, owner_number, owner_of_number};
 ghost use Rattle.volume.specs.meaning.CallContracts.{answer_number};
 ghost use Rattle.volume.specs.meaning.Report.{told_number};
+ghost use Rattle.volume.specs.checks.RefusalNumbers.{refusal_number};
 
-use super::{Answer, Condition, Owner, ReportedCondition};
+use super::{Answer, Condition, Owner, Refusal, ReportedCondition};
+
+impl Refusal {
+    // The documents' number; 16 and 17 stand at 6's place and say more of a bad log.
+    pub fn number(self) -> u8
+        ensures { result ≡ refusal_number self }
+    {
+        match self {
+            Refusal::Geometry => 1,
+            Refusal::Length => 2,
+            Refusal::Pointer => 3,
+            Refusal::TwoLost => 4,
+            Refusal::Label => 5,
+            Refusal::Log => 6,
+            Refusal::Stale => 7,
+            Refusal::Address => 8,
+            Refusal::Run => 9,
+            Refusal::Order => 10,
+            Refusal::Sealed => 11,
+            Refusal::Worn => 12,
+            Refusal::Unwritten => 13,
+            Refusal::LogFull => 14,
+            Refusal::Gone => 15,
+            Refusal::HostLimit => 18,
+            Refusal::OpenLimit => 19,
+        }
+    }
+}
 
 // 0 finished, 255 unfinished, else the refusal's number.
 pub fn answer_number(a: Answer) -> u8

@@ -7,6 +7,7 @@ ghost use Rattle.tables.specs.meaning.Below.{tabulate_from};
 ghost use Rattle.tables.specs.meaning.Lists.{concat};
 ghost use Rattle.tables.specs.meaning.Geometry.{Valid, cells, total_bytes, zone_sectors};
 ghost use Rattle.tables.specs.meaning.Tables.{tables_of};
+ghost use Rattle.volume.specs.checks.RefusalNumbers.{number_of};
 ghost use Rattle.volume.specs.meaning.Rules.{value_at, seal_limit};
 ghost use Rattle.volume.specs.meaning.Refusals.{gone_in, zone_of, offset_of};
 ghost use Rattle.volume.specs.meaning.State.{pointer_in};
@@ -19,7 +20,7 @@ ghost use Rattle.volume.specs.reading.ReadingHeld.{LimitServes};
 ghost use Rattle.volume.specs.reading.Peeking.{place_number_on};
 
 use super::checks::Sizes;
-use super::{Answer, Condition, State, Zone};
+use super::{Answer, Condition, Refusal, State, Zone};
 use tables::{Geometry, MAX_CELLS, MAX_DRIVES};
 
 // Whether some sector of a run is not known; limit is the zone's least current seal.
@@ -36,14 +37,7 @@ pub fn some_gone(
         × (limit ≡ seal_limit zone.geometry (is_set zone.here) (read_device zone.geometry sectors.now written.now) zone.number zone.generation) }
     ensures { result ≡ gone_in zone.geometry (is_set zone.here) (read_device zone.geometry sectors.now written.now) zone.number zone.generation offset count }
 {
-    let mut gone = false;
-    let mut i = 0;
-    while i < count {
-        let ok = super::knowing::is_known(sectors, written, zone, limit, offset + i);
-        gone = gone | !ok;
-        i += 1;
-    }
-    gone
+    (offset..offset + count).any(|a| !super::knowing::is_known(sectors, written, zone, limit, a))
 }
 
 // Copies a run that is held, sector after sector.
@@ -52,13 +46,10 @@ fn copy_run(sectors: &[u8], g: Geometry, z: usize, offset: usize, count: usize, 
     requires z_lt_zones { (z < g.zones) × (offset + count ≤ zone_sectors g) × (length sectors.now ≡ total_bytes g) × (length out.old ≡ count * g.sector) }
     ensures { out.new ≡ concat (tabulate_from (own_sector g sectors.now z) offset count) }
 {
-    let b = g.sector;
-    let mut i = 0;
-    while i < count {
-        let at = i * b;
-        let end = at + b;
+    for i in 0..count {
+        let at = i * g.sector;
+        let end = at + g.sector;
         super::knowing::read_own(sectors, g, z, offset + i, &mut out[at..end]);
-        i += 1;
     }
 }
 
@@ -78,13 +69,10 @@ fn read_values(
         × LimitServes zone.geometry zone.here sectors.now written.now zone.number zone.generation limit offset count }
     ensures { out.new ≡ concat (tabulate_from (value_at zone.geometry (is_set zone.here) (read_device zone.geometry sectors.now written.now) zone.number zone.generation) offset count) }
 {
-    let b = zone.geometry.sector;
-    let mut i = 0;
-    while i < count {
-        let at = i * b;
-        let end = at + b;
+    for i in 0..count {
+        let at = i * zone.geometry.sector;
+        let end = at + zone.geometry.sector;
         super::knowing::served_value(sectors, written, zone, limit, offset + i, &mut out[at..end]);
-        i += 1;
     }
 }
 
@@ -201,30 +189,36 @@ pub fn offset_of(g: Geometry, address: u64) -> usize
     (address % size) as usize
 }
 
-// Refusals 7, 9 and 13 of a run in a zone that exists; 0 if none applies.
-fn run_refusal(written: &[u32], zone: Zone, c: Condition, offset: usize, count: usize) -> u8
+// Refusals 7, 9 and 13 of a run in a zone that exists.
+fn run_refusal(
+    written: &[u32],
+    zone: Zone,
+    c: Condition,
+    offset: usize,
+    count: usize,
+) -> Result<(), Refusal>
     requires valid { Valid zone.geometry }
     requires written_len { (length written.now ≡ cells zone.geometry) × (zone.number < zone.geometry.zones) × (pointer_in c ≤ zone_sectors zone.geometry) × (offset ≤ zone_sectors zone.geometry) × (count ≤ 4294967295) }
-    ensures { result ≡ late_number zone.geometry zone.here written.now c zone.number offset count }
+    ensures { number_of result ≡ late_number zone.geometry zone.here written.now c zone.number offset count }
 {
     let here = zone.here;
     let stale = super::zone_checks::is_stale(written, zone.geometry, here, c, zone.number);
     if stale {
-        return 7;
+        return Err(Refusal::Stale);
     }
     let most = tables::bounds::zone_sectors(zone.geometry);
     let end = offset + count;
     if (count == 0) | (most < end) {
-        return 9;
+        return Err(Refusal::Run);
     }
     let pointer = super::records::pointer_of(c);
     if pointer < end {
-        return 13;
+        return Err(Refusal::Unwritten);
     }
-    0
+    Ok(())
 }
 
-// A read of a run in a zone that there is, in condition c: refusals 7, 9, 13 and 15; 0 if none applies, and then the buffer holds the sectors.
+// A read of a run in a zone that there is, in condition c: refusals 7, 9, 13 and 15; accepted, the buffer holds the sectors.
 pub fn read_zone(
     sectors: &[u8],
     written: &[u32],
@@ -233,31 +227,28 @@ pub fn read_zone(
     offset: usize,
     count: usize,
     out: &mut [u8],
-) -> u8
+) -> Result<(), Refusal>
     requires valid { Valid zone.geometry }
     requires read_asked { ReadAsked zone c sectors.now written.now offset count out.old }
-    ensures { (result ≡ zone_read_number zone c sectors.now written.now offset count) × (out.new ≡ zone_read_left zone sectors.now written.now offset count out.old result) }
+    ensures { (number_of result ≡ zone_read_number zone c sectors.now written.now offset count) × (out.new ≡ zone_read_left zone sectors.now written.now offset count out.old (number_of result)) }
 {
-    let late = run_refusal(written, zone, c, offset, count);
-    if late != 0 {
-        return late;
-    }
+    run_refusal(written, zone, c, offset, count)?;
     let pointer = super::records::pointer_of(c);
     let gone = read_run(sectors, written, zone, pointer, offset, count, out);
     if gone {
-        return 15;
+        return Err(Refusal::Gone);
     }
-    0
+    Ok(())
 }
 
-// A read's answer, by the number of its refusal.
-fn answer_by(number: u8) -> Answer
-    ensures { result ≡ pick (eqb number 0) Finished (Refused number) }
+// A read's answer.
+fn answer_of(read: Result<(), Refusal>) -> Answer
+    ensures { result ≡ pick (eqb (number_of read) 0) Finished (Refused (number_of read)) }
 {
-    if number == 0 {
-        return Answer::Finished;
+    match read {
+        Ok(()) => Answer::Finished,
+        Err(refusal) => Answer::Refused(refusal.number()),
     }
-    Answer::Refused(number)
 }
 
 // The call. A refused read leaves the buffer as it was.
@@ -282,14 +273,13 @@ pub fn read(
         count: count as u64,
         bytes: out.len(),
     };
-    let first = super::checks::opening(within, sizes, written, durable, g, named, lost);
-    if first != 0 {
-        return Answer::Refused(first);
+    if let Err(refusal) = super::checks::opening(within, sizes, written, durable, g, named, lost) {
+        return Answer::Refused(refusal.number());
     }
     let z = zone_of(g, address);
     let zones = g.zones;
     if zones <= z {
-        return Answer::Refused(8);
+        return Answer::Refused(Refusal::Address.number());
     }
     let records = state.zones;
     let record = records[z];
@@ -302,11 +292,10 @@ pub fn read(
         generation: record.generation,
     };
     let offset = offset_of(g, address);
-    let number = read_zone(sectors, written, zone, c, offset, count as usize, out);
-    answer_by(number)
+    answer_of(read_zone(sectors, written, zone, c, offset, count as usize, out))
 }
 
-// Refusals 7, 13 and 15 of a peek in a zone that exists; 0 if none applies.
+// Refusals 7, 13 and 15 of a peek in a zone that exists.
 fn place_refusal(
     written: &[u32],
     g: Geometry,
@@ -314,27 +303,27 @@ fn place_refusal(
     c: Condition,
     z: usize,
     offset: usize,
-) -> u8
+) -> Result<(), Refusal>
     requires valid { Valid g }
     requires z_lt_zones { (z < g.zones) × (length written.now ≡ cells g) × (pointer_in c ≤ zone_sectors g) × (offset < zone_sectors g) }
-    ensures { result ≡ place_number_on g here written.now c z offset }
+    ensures { number_of result ≡ place_number_on g here written.now c z offset }
 {
     let stale = super::zone_checks::is_stale(written, g, here, c, z);
     if stale {
-        return 7;
+        return Err(Refusal::Stale);
     }
     let pointer = super::records::pointer_of(c);
     if pointer < offset + 1 {
-        return 13;
+        return Err(Refusal::Unwritten);
     }
     let held = super::knowing::own_held(written, g, here, z, offset);
     if !held {
-        return 15;
+        return Err(Refusal::Gone);
     }
-    0
+    Ok(())
 }
 
-// The number of a peek's refusal; 0 if it is accepted.
+// The refusals of a peek.
 pub fn peek_refusal(
     sectors: &[u8],
     written: &[u32],
@@ -343,8 +332,8 @@ pub fn peek_refusal(
     named: [bool; MAX_DRIVES],
     state: State,
     address: u64,
-) -> u8
-    ensures { result ≡ peek_number g named state address (tables_of sectors.now written.now durable.now) }
+) -> Result<(), Refusal>
+    ensures { number_of result ≡ peek_number g named state address (tables_of sectors.now written.now durable.now) }
 {
     let within = super::checks::input_within(g, state);
     let lost = state.lost;
@@ -353,14 +342,11 @@ pub fn peek_refusal(
         count: 0,
         bytes: 0,
     };
-    let first = super::checks::opening(within, sizes, written, durable, g, named, lost);
-    if first != 0 {
-        return first;
-    }
+    super::checks::opening(within, sizes, written, durable, g, named, lost)?;
     let z = zone_of(g, address);
     let zones = g.zones;
     if zones <= z {
-        return 8;
+        return Err(Refusal::Address);
     }
     let records = state.zones;
     let record = records[z];
@@ -383,8 +369,7 @@ pub fn peek<'a>(
     ensures { (result.now ≡ peek_on g named state address (tables_of sectors.now written.now durable.now))
         × (result.ref_ptr ≡ past (peek_from g named state address (tables_of sectors.now written.now durable.now)) sectors.entry.ref_ptr) }
 {
-    let refusal = peek_refusal(sectors, written, durable, g, named, state, address);
-    if refusal != 0 {
+    if peek_refusal(sectors, written, durable, g, named, state, address).is_err() {
         return &sectors[..0];
     }
     let z = zone_of(g, address);

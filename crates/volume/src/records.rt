@@ -67,61 +67,26 @@ pub fn blank_record() -> ZoneRecord
 pub fn generations_of(state: State) -> [u64; MAX_ZONES]
     ensures { result ≡ generations_in state }
 {
-    let zones = state.zones;
-    let mut out = [0u64; MAX_ZONES];
-    let mut i = 0;
-    while i < MAX_ZONES {
-        let r = zones[i];
-        out[i] = r.generation;
-        i += 1;
-    }
-    out
+    state.zones.map(|r| r.generation)
 }
 
 // The pointers of the state's zones.
 pub fn points_of(state: State) -> [usize; MAX_ZONES]
     ensures { result ≡ points_in state }
 {
-    let zones = state.zones;
-    let mut out = [0usize; MAX_ZONES];
-    let mut i = 0;
-    while i < MAX_ZONES {
-        let r = zones[i];
-        let condition = r.condition;
-        out[i] = pointer_of(condition);
-        i += 1;
-    }
-    out
+    state.zones.map(|r| pointer_of(r.condition))
 }
 
 // The generations that a look shows.
 pub fn generations_shown(look: Look) -> [u64; MAX_ZONES]
     ensures { result ≡ generations_shown look }
 {
-    let zones = look.zones;
-    let mut generations = [0u64; MAX_ZONES];
-    let mut z = 0;
-    while z < MAX_ZONES {
-        let zone = zones[z];
-        let generation = zone.generation;
-        generations[z] = generation;
-        z += 1;
-    }
-    generations
+    look.zones.map(|zone| zone.generation)
 }
 
 // The pointers that a look shows.
 pub fn points_shown(look: Look) -> [usize; MAX_ZONES]
     ensures { result ≡ points_shown look }
 {
-    let zones = look.zones;
-    let mut points = [0usize; MAX_ZONES];
-    let mut z = 0;
-    while z < MAX_ZONES {
-        let zone = zones[z];
-        let pointer = zone.pointer;
-        points[z] = pointer;
-        z += 1;
-    }
-    points
+    look.zones.map(|zone| zone.pointer)
 }

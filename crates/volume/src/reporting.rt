@@ -5,7 +5,7 @@ ghost use Rattle.volume.specs.meaning.CallContracts.{record_at, view_state};
 ghost use Rattle.volume.specs.meaning.Report.{told_of, descriptor_of, may_report, report_on};
 ghost use Rattle.volume.specs.reading.Reporting.{reported_as, report_number};
 
-use super::{Answer, Condition, Reported, ReportedCondition, State, ZoneDescriptor};
+use super::{Answer, Condition, Refusal, Reported, ReportedCondition, State, ZoneDescriptor};
 use tables::Geometry;
 
 // Refusal 1: whether the geometry and the state keep their bounds.
@@ -77,7 +77,7 @@ pub fn reported(g: Geometry, state: State, number: usize) -> Reported
         };
     }
     Reported {
-        answer: Answer::Refused(1),
+        answer: Answer::Refused(Refusal::Geometry.number()),
         number,
     }
 }
@@ -89,10 +89,8 @@ pub fn report(g: Geometry, state: State, list: &mut [ZoneDescriptor]) -> Reporte
         × (list.new ≡ (report_on g (view_state state) list.old).list) }
 {
     let n = report_number(g, state, list.len());
-    let mut i = 0;
-    while i < n {
-        list[i] = describe(g, state, i);
-        i += 1;
+    for z in 0..n {
+        list[z] = describe(g, state, z);
     }
     reported(g, state, n)
 }

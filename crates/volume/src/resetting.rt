@@ -9,6 +9,7 @@ ghost use Rattle.tables.specs.meaning.Phases.{on_present};
 ghost use Rattle.tables.specs.meaning.Tables.{tables_of};
 ghost use Rattle.tables.specs.laws.Made.{Made, MadeAppends, MadePointers};
 ghost use Rattle.logs.specs.meaning.Entry.{worn_generation};
+ghost use Rattle.volume.specs.checks.RefusalNumbers.{number_of};
 ghost use Rattle.volume.specs.declared.Answer.TheVariants.{Finished, Unfinished};
 ghost use Rattle.volume.specs.meaning.State.{pointer_in};
 ghost use Rattle.volume.specs.meaning.CallContracts.{record_at, is_set, reset_on, state_held, view_state};
@@ -25,30 +26,30 @@ use super::checks::Sizes;
 use super::emptyings::Emptyings;
 use super::log_room::RoomAsked;
 use super::roles::LogPlaces;
-use super::{Condition, Outcome, Owner, State, Zone, ZoneRecord};
+use super::{Condition, Outcome, Owner, Refusal, State, Zone, ZoneRecord};
 use tables::{Geometry, MAX_CELLS, MAX_DRIVES, MAX_ZONES};
 
-// Refusals 7 and 12 of a reset of a zone that there is, by the state's record of it; 0 if none applies.
+// Refusals 7 and 12 of a reset of a zone that there is, by the state's record of it.
 fn zone_refusal(
     written: &[u32],
     g: Geometry,
     here: [bool; MAX_DRIVES],
     r: ZoneRecord,
     z: usize,
-) -> u8
+) -> Result<(), Refusal>
     requires valid { Valid g }
     requires written_len { (length written.now ≡ cells g) × (z < g.zones) × (pointer_in r.condition ≤ zone_sectors g) }
-    ensures { result ≡ reset_late_number g (is_set here) r z written.now }
+    ensures { number_of result ≡ reset_late_number g (is_set here) r z written.now }
 {
     let condition = r.condition;
     if super::zone_checks::is_stale(written, g, here, condition, z) {
-        return 7;
+        return Err(Refusal::Stale);
     }
     let generation = r.generation;
     if super::records::is_worn(condition) | (logs::WORN_GENERATION <= generation) {
-        return 12;
+        return Err(Refusal::Worn);
     }
-    0
+    Ok(())
 }
 
 // The first phase: a type 3 header on the drives of the first unit and of parity of the zone's stripe 0.
@@ -65,15 +66,12 @@ fn log_resets(
     requires z_lt_zones { (z < g.zones) × (length sectors.old ≡ total_bytes g) × (length written.old ≡ cells g) }
     ensures { MadeAppends g budget result (on_present (is_set here) (each_below (reset_entry g z generation) g.drives)) sectors.old written.old sectors.new written.new }
 {
-    let n = g.drives;
     let first = tables::placement::first_drive(g, z);
-    let parity = tables::placement::parity_drive(n, z, 0);
+    let parity = tables::placement::parity_drive(g.drives, z, 0);
     let mut rest = budget;
-    let mut d = 0;
-    while d < n {
+    for d in 0..g.drives {
         let due = here[d] & ((d == first) | (d == parity));
         rest = super::logging::append_reset(sectors, written, g, due, d, z, generation, rest);
-        d += 1;
     }
     rest
 }
@@ -91,21 +89,17 @@ fn reset_zones(
     requires z_lt_zones { (z < g.zones) × (length written.old ≡ cells g) × (length durable.old ≡ cells g) }
     ensures { MadePointers g budget result (on_present (is_set here) (each_below (zone_reset_at z) g.drives)) written.old durable.old written.new durable.new }
 {
-    let n = g.drives;
     let mut rest = budget;
-    let mut d = 0;
-    while d < n {
-        let present = here[d];
+    for d in 0..g.drives {
         rest = tables::stores::reset_counted(
             written,
             durable,
             g,
-            present,
+            here[d],
             d,
             tables::DATA_ZONES + z,
             rest,
         );
-        d += 1;
     }
     rest
 }
@@ -123,13 +117,9 @@ pub fn log_counters(
     requires zones_in_bounds { (g.zones ≤ length generations.now) × (length sectors.old ≡ total_bytes g) × (length written.old ≡ cells g) }
     ensures { MadeAppends g budget result (on_present (is_set here) (each_below (counters_at g (take g.zones generations.now)) g.drives)) sectors.old written.old sectors.new written.new }
 {
-    let n = g.drives;
     let mut rest = budget;
-    let mut d = 0;
-    while d < n {
-        let present = here[d];
-        rest = super::logging::append_counters(sectors, written, g, present, d, generations, rest);
-        d += 1;
+    for d in 0..g.drives {
+        rest = super::logging::append_counters(sectors, written, g, here[d], d, generations, rest);
     }
     rest
 }
@@ -139,18 +129,9 @@ fn raised_generations(state: State, z: usize) -> [u64; MAX_ZONES]
     requires { (z < 16) × ((record_at state z).generation < worn_generation) }
     ensures { result ≡ raised_list state z }
 {
-    let zones = state.zones;
-    let old = zones[z];
-    let next = old.generation + 1;
-    let mut out = [0u64; MAX_ZONES];
-    let mut i = 0;
-    while i < MAX_ZONES {
-        let r = zones[i];
-        let own = r.generation;
-        out[i] = super::checks::choose_generation(i == z, next, own);
-        i += 1;
-    }
-    out
+    let mut raised = super::records::generations_of(state);
+    raised[z] += 1;
+    raised
 }
 
 // The six phases, with the generations that the counters give afterwards.
@@ -278,7 +259,7 @@ fn reset_seen(
     let room = super::log_room::general_room(sectors, written, pointers, asked, &current);
     let full = room.full;
     if full {
-        return super::checks::refused(14, state);
+        return super::checks::refused(Refusal::LogFull, state);
     }
     let all = super::log_room::emptyings_of(asked, room);
     let to = all.to;
@@ -348,20 +329,18 @@ pub fn reset(
         count: 0,
         bytes: 0,
     };
-    let first = super::checks::opening(within, sizes, written, durable, g, named, lost);
-    if first != 0 {
-        return super::checks::refused(first, state);
+    if let Err(refusal) = super::checks::opening(within, sizes, written, durable, g, named, lost) {
+        return super::checks::refused(refusal, state);
     }
     let zones = g.zones;
     if zones <= zone {
-        return super::checks::refused(8, state);
+        return super::checks::refused(Refusal::Address, state);
     }
     let records = state.zones;
     let record = records[zone];
     let here = super::checks::present_drives(g, named, lost);
-    let late = zone_refusal(written, g, here, record, zone);
-    if late != 0 {
-        return super::checks::refused(late, state);
+    if let Err(refusal) = zone_refusal(written, g, here, record, zone) {
+        return super::checks::refused(refusal, state);
     }
     let own = Zone {
         geometry: g,

@@ -212,18 +212,21 @@ fn other_than(y: usize) -> usize
 fn zones_by(general: Counting, parity: Counting) -> LogZones
     ensures { result ≡ zones_by general parity }
 {
-    let lacks_general = general.lacks;
-    let lacks_parity = parity.lacks;
-    let counted = parity.zone;
-    let apart = other_than(counted);
-    let s = super::checks::choose(lacks_general, apart, general.zone);
-    let beside = other_than(s);
-    let q = super::checks::choose(counted == s, beside, counted);
+    let s = if general.lacks {
+        other_than(parity.zone)
+    } else {
+        general.zone
+    };
+    let q = if parity.zone == s {
+        other_than(s)
+    } else {
+        parity.zone
+    };
     LogZones {
         general: s,
         parity: q,
-        lacks_general,
-        lacks_parity,
+        lacks_general: general.lacks,
+        lacks_parity: parity.lacks,
     }
 }
 
@@ -270,7 +273,7 @@ pub fn log_generation(
     ensures { suc result ≡ claim_of_kind parity (roles g (read_device g sectors.now written.now) drive) }
 {
     let zones = find_logs(sectors, written, g, drive);
-    let zone = super::checks::choose(parity, zones.parity, zones.general);
+    let zone = if parity { zones.parity } else { zones.general };
     claim_of(sectors, written, g, drive, zone, parity)
 }
 
@@ -326,18 +329,14 @@ pub fn place_logs(sectors: &[u8], written: &[u32], g: Geometry) -> LogPlaces
     requires sized { Sized g sectors.now written.now }
     ensures { result ≡ places_of g (roles g (read_device g sectors.now written.now)) }
 {
-    let n = g.drives;
-    let mut logs = 0u64;
+    let mut logs = 0;
     let mut no_general = [false; MAX_DRIVES];
     let mut no_parity = [false; MAX_DRIVES];
-    let mut d = 0;
-    while d < n {
+    for d in 0..g.drives {
         let zones = find_logs(sectors, written, g, d);
-        let bits = log_bits(zones, d);
-        logs = logs + bits;
+        logs += log_bits(zones, d);
         no_general[d] = zones.lacks_general;
         no_parity[d] = zones.lacks_parity;
-        d += 1;
     }
     let geometry = with_logs(g, logs);
     LogPlaces {
@@ -352,13 +351,11 @@ fn zones_after(g: Geometry, parity: bool, emptied: bool, drive: usize) -> LogZon
     requires { drive < 8 }
     ensures { result ≡ zones_after g parity emptied drive }
 {
-    let general = super::checks::choose(emptied & !parity, 2, 0);
-    let other = super::checks::choose(emptied & parity, 2, 1);
-    let general_zone = tables::stores::zone_place(g, drive, general);
-    let parity_zone = tables::stores::zone_place(g, drive, other);
+    let general = if emptied & !parity { 2 } else { 0 };
+    let other = if emptied & parity { 2 } else { 1 };
     LogZones {
-        general: general_zone,
-        parity: parity_zone,
+        general: tables::stores::zone_place(g, drive, general),
+        parity: tables::stores::zone_place(g, drive, other),
         lacks_general: false,
         lacks_parity: false,
     }
@@ -369,14 +366,9 @@ pub fn move_logs(g: Geometry, parity: bool, emptied: [bool; MAX_DRIVES]) -> Geom
     requires { Valid g }
     ensures { result ≡ with_logs g (moved_logs g parity (is_set emptied) g.drives) }
 {
-    let n = g.drives;
-    let mut logs = 0u64;
-    let mut d = 0;
-    while d < n {
-        let zones = zones_after(g, parity, emptied[d], d);
-        let bits = log_bits(zones, d);
-        logs = logs + bits;
-        d += 1;
+    let mut logs = 0;
+    for d in 0..g.drives {
+        logs += log_bits(zones_after(g, parity, emptied[d], d), d);
     }
     with_logs(g, logs)
 }
@@ -401,21 +393,11 @@ pub fn hide_lacking(written: &[u32], pointers: &mut [u32], places: LogPlaces)
     requires written_len { (length written.now ≡ cells places.geometry) × (length pointers.old ≡ cells places.geometry) }
     ensures { pointers.new ≡ hidden_logs places written.now places.geometry.drives }
 {
-    let no_general = places.no_general;
-    let no_parity = places.no_parity;
-    let n = places.geometry.drives;
-    tables::sectors::copy_pointers(pointers, 0, written);
-    let mut d = 0;
-    while d < n {
-        hide_log(
-            pointers,
-            places.geometry,
-            no_general[d],
-            d,
-            logs::GENERAL_LOG,
-        );
-        hide_log(pointers, places.geometry, no_parity[d], d, logs::PARITY_LOG);
-        d += 1;
+    let g = places.geometry;
+    tables::sectors::copy_in(pointers, 0, written);
+    for d in 0..g.drives {
+        hide_log(pointers, g, places.no_general[d], d, logs::GENERAL_LOG);
+        hide_log(pointers, g, places.no_parity[d], d, logs::PARITY_LOG);
     }
 }
 

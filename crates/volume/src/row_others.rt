@@ -100,6 +100,7 @@ pub fn xor_row(sectors: &[u8], g: Geometry, row: RowPlace, out: &mut [u8])
 {
     let n = g.drives - 1;
     let mut k = 0;
+    // kept: the steps differ, since xor_next takes one unit or two and says where it stopped; a `for` has one step.
     while k < n {
         k = xor_next(sectors, g, row, k, out);
     }

@@ -274,11 +274,10 @@ fn build_row(
     requires stripe_known { StripeKnown known sectors.old pointers.now buffer.now s × (s * stripe_sectors known.geometry + r < known.end) × FreePlace known.geometry pointers.now to }
     ensures { sectors.new ≡ overlay sectors.old to (row_xor_below known.geometry.drives known.geometry.unit (content_of known (read_device known.geometry sectors.old pointers.now) buffer.now) s known.end r) }
 {
-    let drives = known.geometry.drives;
-    let u = known.geometry.unit;
-    let n = drives - 1;
-    let start = s * (n * u) + r;
+    let n = known.geometry.drives - 1;
+    let start = s * (n * known.geometry.unit) + r;
     let mut k = 0;
+    // kept: the steps differ, since put_next takes one member, two or three and says where it stopped; a `for` has one step.
     while k < n {
         k = put_next(sectors, pointers, buffer, known, start, k, to);
     }
@@ -337,12 +336,10 @@ pub fn append_rows(
         sectors.old written.old sectors.new written.new }
 {
     let mut rest = budget;
-    let mut r = from;
-    while r < m {
+    for r in from..m {
         rest = append_row(
             sectors, written, pointers, buffer, known, target, s, r, rest,
         );
-        r += 1;
     }
     rest
 }

@@ -30,7 +30,7 @@ pub fn half_past(g: Geometry, unused: usize) -> u32
     ensures { result ≡ half_past g unused }
 {
     let kept = reserve_of(g);
-    let past = tables::placement::saturating_sub(unused, kept);
+    let past = unused.saturating_sub(kept);
     (past / 2) as u32
 }
 
@@ -69,22 +69,7 @@ pub fn shares_of(pointers: &[u32], places: LogPlaces, here: [bool; MAX_DRIVES]) 
     requires here_below { HereBelow places.geometry here × (length pointers.now ≡ cells places.geometry) }
     ensures { result ≡ tabulate (shares_on places here pointers.now) max_shares }
 {
-    let mut shares = [0u32; MAX_SHARES];
-    let mut i = 0;
-    while i < MAX_SHARES {
-        let drive = i / HOSTS;
-        let present = here[drive];
-        shares[i] = share_of(pointers, places, present, drive);
-        i += 1;
-    }
-    shares
-}
-
-// The number if b, else 0.
-fn number_if(b: bool, n: u32) -> u32
-    ensures { result ≡ pick b n 0 }
-{
-    if b { n } else { 0 }
+    std::array::from_fn(|i| share_of(pointers, places, here[i / HOSTS], i / HOSTS))
 }
 
 // The shares of the drives that are here, where every parity log is empty.
@@ -92,15 +77,6 @@ pub fn fresh_shares(g: Geometry, here: [bool; MAX_DRIVES]) -> [u32; MAX_SHARES]
     requires { Valid g }
     ensures { result ≡ tabulate (fresh_shares g (is_set here)) max_shares }
 {
-    let c = g.capacity;
-    let half = half_past(g, c);
-    let mut shares = [0u32; MAX_SHARES];
-    let mut i = 0;
-    while i < MAX_SHARES {
-        let drive = i / HOSTS;
-        let present = here[drive];
-        shares[i] = number_if(present, half);
-        i += 1;
-    }
-    shares
+    let half = half_past(g, g.capacity);
+    std::array::from_fn(|i| if here[i / HOSTS] { half } else { 0 })
 }

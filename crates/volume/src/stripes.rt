@@ -114,6 +114,7 @@ fn lay_stripe(sectors: &mut [u8], written: &[u32], buffer: &[u8], s: Stripe)
 {
     let last = s.geometry.drives - 1;
     let mut j = 0;
+    // kept: the steps differ, since put_units takes one unit or three and says where it stopped; a `for` has one step.
     while j < last {
         j = put_units(sectors, written, buffer, s, j);
     }
@@ -126,12 +127,9 @@ fn pass_units(written: &mut [u32], s: Stripe)
         × ((j : ℕ) → j < s.geometry.drives → get_or written.old (cell s.geometry (unit_drive s.geometry.drives s.parity j) s.zone) 0 + s.geometry.unit ≤ s.geometry.capacity) }
     ensures { written.new ≡ units_passed s.geometry s.zone (unit_drive s.geometry.drives s.parity) written.old s.geometry.drives }
 {
-    let drives = s.geometry.drives;
-    let mut j = 0;
-    while j < drives {
-        let d = tables::placement::unit_drive(drives, s.parity, j);
+    for j in 0..s.geometry.drives {
+        let d = tables::placement::unit_drive(s.geometry.drives, s.parity, j);
         tables::stores::advance_by(written, s.geometry, d, s.zone, s.geometry.unit);
-        j += 1;
     }
 }
 
@@ -141,16 +139,8 @@ fn room_for_units(written: &[u32], g: Geometry, here: [bool; MAX_DRIVES], zone: 
     requires zone_bound { (zone < physical_zones g) × (length written.now ≡ cells g) }
     ensures { result ≡ all_below (room_for g here written.now zone) g.drives }
 {
-    let drives = g.drives;
     let most = g.capacity - g.unit;
-    let mut all = true;
-    let mut d = 0;
-    while d < drives {
-        let w = super::zone_checks::written_at(written, g, d, zone);
-        all = all & (here[d] & (w <= most));
-        d += 1;
-    }
-    all
+    (0..g.drives).all(|d| here[d] & (super::zone_checks::written_at(written, g, d, zone) <= most))
 }
 
 // Whether a stripe begins at address a and is written whole.

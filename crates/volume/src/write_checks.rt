@@ -1,6 +1,7 @@
 // Refusals 7 to 12, 18 and 19 of a write, and 15: what its first stripe needs. No store is made before the last of them has passed.
 ghost use Rattle.std.specs.Prelude.{◌≡◌, ◌≤◌, ◌<◌, length};
 ghost use Rattle.tables.specs.meaning.Geometry.{Valid, zone_sectors, cells};
+ghost use Rattle.volume.specs.checks.RefusalNumbers.{number_of};
 ghost use Rattle.volume.specs.meaning.State.{pointer_in};
 ghost use Rattle.volume.specs.meaning.Refusals.{gone_before};
 ghost use Rattle.volume.specs.meaning.CallContracts.{is_set};
@@ -8,32 +9,32 @@ ghost use Rattle.volume.specs.looking.Knowing.{Readable, read_device};
 ghost use Rattle.volume.specs.writing.WriteChecks.{run_number, zone_number};
 
 use super::writing::Run;
-use super::{Condition, Zone};
+use super::{Condition, Refusal, Zone};
 use tables::Geometry;
 
-// Refusals 9 to 12 of a write of `count` sectors from `offset` of a zone; 0 if none applies.
-fn run_refusal(g: Geometry, c: Condition, offset: usize, count: usize) -> u8
+// Refusals 9 to 12 of a write of `count` sectors from `offset` of a zone.
+fn run_refusal(g: Geometry, c: Condition, offset: usize, count: usize) -> Result<(), Refusal>
     requires valid { Valid g }
     requires offset_bound { (offset < zone_sectors g) × (count < 4294967296) }
-    ensures { result ≡ run_number g c offset count }
+    ensures { number_of result ≡ run_number g c offset count }
 {
     let most = tables::bounds::zone_sectors(g);
     if (count == 0) | (most < offset + count) {
-        return 9;
+        return Err(Refusal::Run);
     }
     let n = super::records::pointer_of(c);
     if offset != n {
-        return 10;
+        return Err(Refusal::Order);
     }
     let sealed = super::records::is_sealed(c);
     if sealed {
-        return 11;
+        return Err(Refusal::Sealed);
     }
     let worn = super::records::is_worn(c);
     if worn {
-        return 12;
+        return Err(Refusal::Worn);
     }
-    0
+    Ok(())
 }
 
 // Refusal 15: whether the stripe's parity drive is here and one of the stripe's earlier sectors is not known.
@@ -73,27 +74,24 @@ pub fn gone_before(sectors: &[u8], written: &[u32], zone: Zone, n: usize) -> boo
     super::reading::some_gone(sectors, written, zone, limit, start, n - start)
 }
 
-// Refusals 7 to 12, 18 and 19 of a write to a zone that there is, in condition c; 0 if none applies.
-pub fn zone_refusal(written: &[u32], run: Run, c: Condition) -> u8
+// Refusals 7 to 12, 18 and 19 of a write to a zone that there is, in condition c.
+pub fn zone_refusal(written: &[u32], run: Run, c: Condition) -> Result<(), Refusal>
     requires valid { Valid run.zone.geometry }
     requires number_lt_zones { (run.zone.number < run.zone.geometry.zones) × (length written.now ≡ cells run.zone.geometry) × (pointer_in c ≤ zone_sectors run.zone.geometry) }
     requires pointer_bound { (run.pointer < zone_sectors run.zone.geometry) × (run.count < 4294967296) }
-    ensures { result ≡ zone_number run c written.now }
+    ensures { number_of result ≡ zone_number run c written.now }
 {
     let g = run.zone.geometry;
     let here = run.zone.here;
     let stale = super::zone_checks::is_stale(written, g, here, c, run.zone.number);
     if stale {
-        return 7;
+        return Err(Refusal::Stale);
     }
     let allowance = run.allowance;
     let known = allowance.known;
     if !known {
-        return 8;
+        return Err(Refusal::Address);
     }
-    let refusal = run_refusal(g, c, run.pointer, run.count);
-    if refusal != 0 {
-        return refusal;
-    }
-    allowance.refusal
+    run_refusal(g, c, run.pointer, run.count)?;
+    allowance.limits
 }

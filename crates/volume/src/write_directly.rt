@@ -13,15 +13,12 @@ ghost use Rattle.volume.specs.writing.WriteDirectly.{entry_log, entry_place, dir
 
 use super::write_room::EntryTaken;
 use super::writing::Run;
-use super::{Condition, Zone};
+use super::{Condition, Refusal, Zone};
 use tables::{Geometry, MAX_CELLS};
 
-// What a write that is asked of its zone came to: refused by 7 to 12, 18 or 19 (0 if by none); made, with what is left of the budget of stores, and its entry;
-// or neither, for it needs other logs or is refused by 14.
+// A write that was made: what is left of its budget of stores, and its entry.
 #[derive(Clone, Copy)]
-pub struct Tried {
-    pub refusal: u8,
-    pub made: bool,
+pub struct WriteMade {
     pub rest: u64,
     pub entry: EntryTaken,
 }
@@ -125,7 +122,7 @@ fn write_directly(
 {
     let cells = written.len();
     let mut pointers = [0u32; MAX_CELLS];
-    tables::sectors::copy_pointers(&mut pointers[..cells], 0, written);
+    tables::sectors::copy_in(&mut pointers[..cells], 0, written);
     super::write_stores::write_all(
         sectors,
         written,
@@ -139,22 +136,8 @@ fn write_directly(
     )
 }
 
-// A write that was not made.
-fn not_made(refusal: u8) -> Tried
-    ensures { (result.refusal ≡ refusal) × (result.made ≡ false) }
-{
-    Tried {
-        refusal,
-        made: false,
-        rest: 0,
-        entry: EntryTaken {
-            drive: 0,
-            sectors: 0,
-        },
-    }
-}
-
 // Refusals 7 to 12, 18 and 19 of a write in a zone that there is, in condition c; if none applies and it needs no log but that of its entry, its stores.
+// Not made: it needs other logs, or is refused by 14.
 pub fn write_alone(
     sectors: &mut [u8],
     written: &mut [u32],
@@ -162,27 +145,18 @@ pub fn write_alone(
     c: Condition,
     buffer: &[u8],
     count: u32,
-) -> Tried
+) -> Result<Option<WriteMade>, Refusal>
     requires valid { Valid run.zone.geometry }
     requires run_asked { RunAsked run c sectors.old written.old buffer.now }
     ensures { TriedOn run c count buffer.now sectors.old written.old sectors.new written.new result }
 {
-    let refusal = super::write_checks::zone_refusal(written, run, c);
-    if refusal != 0 {
-        return not_made(refusal);
-    }
+    super::write_checks::zone_refusal(written, run, c)?;
     let entry = super::write_room::entry_taken(run.zone, run.pointer + run.count);
     let place = place_of(sectors, written, run, entry);
-    let alone = place.alone;
-    if !alone {
-        return not_made(0);
+    if !place.alone {
+        return Ok(None);
     }
     let budget = super::checks::budget_of(count);
     let rest = write_directly(sectors, written, run, place.geometry, buffer, budget);
-    Tried {
-        refusal: 0,
-        made: true,
-        rest,
-        entry,
-    }
+    Ok(Some(WriteMade { rest, entry }))
 }

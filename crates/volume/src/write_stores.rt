@@ -126,10 +126,10 @@ fn write_run(
     ensures { MadeAppends known.to budget result (on_present (is_set known.here) (data_stores known.geometry.drives known.geometry.unit known.zone (content_of known (read_device known.geometry sectors.old pointers.now) buffer.now) known.below (known.end - known.below)))
         sectors.old written.old sectors.new written.new }
 {
-    let end = known.end;
     let mut rest = budget;
     let mut a = known.below;
-    while a < end {
+    // kept: the steps differ, since write_next takes a sector or a whole stripe and says where it stopped; a `for` has one step.
+    while a < known.end {
         let reached = write_next(sectors, written, pointers, buffer, known, a, rest);
         rest = reached.rest;
         a = reached.next;
@@ -203,7 +203,7 @@ fn write_entry(
         known.generation,
         budget,
     );
-    let m = tables::placement::min(fill, known.geometry.unit);
+    let m = fill.min(known.geometry.unit);
     let target = Target {
         drive: p,
         zone: logs::PARITY_LOG,

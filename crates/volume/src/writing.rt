@@ -14,7 +14,7 @@ use super::checks::Sizes;
 use super::hosts::Allowance;
 use super::roles::LogPlaces;
 use super::write_room::EntryTaken;
-use super::{Answer, Condition, Outcome, State, Zone, ZoneRecord};
+use super::{Answer, Condition, Outcome, Refusal, State, Zone, ZoneRecord};
 use tables::{Geometry, MAX_CELLS, MAX_DRIVES};
 
 // What is written: so many sectors of a zone from its pointer on, by a host that may do so much.
@@ -85,7 +85,7 @@ fn write_seen(
     let share = run.allowance.share;
     let full = super::write_room::write_full(pointers, run.zone.geometry, places, share, entry);
     if full {
-        return super::checks::refused(14, state);
+        return super::checks::refused(Refusal::LogFull, state);
     }
     let here = run.zone.here;
     let lies = Zone {
@@ -96,7 +96,7 @@ fn write_seen(
     };
     let gone = super::write_checks::gone_before(sectors, pointers, lies, run.pointer);
     if gone {
-        return super::checks::refused(15, state);
+        return super::checks::refused(Refusal::Gone, state);
     }
     let budget = super::checks::budget_of(count);
     let rest = super::write_stores::write_all(
@@ -163,16 +163,11 @@ fn write_zone(
     let records = state.zones;
     let record = records[z];
     let c = record.condition;
-    let tried = super::write_directly::write_alone(sectors, written, run, c, buffer, count);
-    let refusal = tried.refusal;
-    if refusal != 0 {
-        return super::checks::refused(refusal, state);
+    match super::write_directly::write_alone(sectors, written, run, c, buffer, count) {
+        Err(refusal) => super::checks::refused(refusal, state),
+        Ok(None) => write_by_roles(sectors, written, run, state, buffer, count),
+        Ok(Some(made)) => outcome(run, made.entry, state, made.rest),
     }
-    let made = tried.made;
-    if !made {
-        return write_by_roles(sectors, written, run, state, buffer, count);
-    }
-    outcome(run, tried.entry, state, tried.rest)
 }
 
 // What is asked: `count` sectors from an offset of a zone that there is, by a host.
@@ -230,14 +225,13 @@ pub fn write(
         count: run as u64,
         bytes: buffer.len(),
     };
-    let first = super::checks::opening(within, sizes, written, durable, g, named, lost);
-    if first != 0 {
-        return super::checks::refused(first, state);
+    if let Err(refusal) = super::checks::opening(within, sizes, written, durable, g, named, lost) {
+        return super::checks::refused(refusal, state);
     }
     let z = super::reading::zone_of(g, address);
     let zones = g.zones;
     if zones <= z {
-        return super::checks::refused(8, state);
+        return super::checks::refused(Refusal::Address, state);
     }
     let here = super::checks::present_drives(g, named, lost);
     let offset = super::reading::offset_of(g, address);

@@ -71,15 +71,7 @@ pub fn is_stale(
 {
     let pointer = super::records::pointer_of(condition);
     let at = tables::placement::stripe_at(g, z, pointer);
-    let n = g.drives;
-    let mut stale = false;
-    let mut d = 0;
-    while d < n {
-        let bad = drive_stale(written, g, here[d], condition, at, z, d);
-        stale = stale | bad;
-        d += 1;
-    }
-    stale
+    (0..g.drives).any(|d| drive_stale(written, g, here[d], condition, at, z, d))
 }
 
 // Whether reading below `end`, which is at or below the pointer, needs the logs: a drive is absent, and the pointer's own stripe is read.

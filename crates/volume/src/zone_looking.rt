@@ -15,13 +15,6 @@ use super::{Condition, Zone, ZoneLook};
 use logs::Query;
 use tables::{Geometry, MAX_DRIVES};
 
-// The greater of two generations.
-fn later(a: u64, b: u64) -> u64
-    ensures { result ≡ larger a b }
-{
-    if a <= b { b } else { a }
-}
-
 // Rule 2, of one drive.
 fn drive_generation(
     sectors: &[u8],
@@ -53,13 +46,9 @@ pub fn generation_of(
     requires sized { Sized g sectors.now written.now × (z < g.zones) }
     ensures { result ≡ generation_of g (is_set here) (read_device g sectors.now written.now) z }
 {
-    let n = g.drives;
     let mut most = 0;
-    let mut d = 0;
-    while d < n {
-        let x = drive_generation(sectors, written, g, here[d], d, z);
-        most = later(most, x);
-        d += 1;
+    for d in 0..g.drives {
+        most = drive_generation(sectors, written, g, here[d], d, z).max(most);
     }
     most
 }
@@ -95,15 +84,7 @@ fn is_told(
     requires sized { Sized g sectors.now written.now }
     ensures { result ≡ told_by g (is_set here) (read_device g sectors.now written.now) query }
 {
-    let n = g.drives;
-    let mut told = false;
-    let mut d = 0;
-    while d < n {
-        let b = drive_tells(query, sectors, written, g, here[d], d);
-        told = told | b;
-        d += 1;
-    }
-    told
+    (0..g.drives).any(|d| drive_tells(query, sectors, written, g, here[d], d))
 }
 
 // Rule 6, of one drive: it has no more sectors than pointer q needs, and no current partial parity entry, whole or torn, that ends past it.
@@ -131,15 +112,7 @@ pub fn is_clean(sectors: &[u8], written: &[u32], zone: Zone, q: usize) -> bool
     requires sized { Sized zone.geometry sectors.now written.now × (zone.number < zone.geometry.zones) × (q ≤ zone_sectors zone.geometry) }
     ensures { result ≡ clean_at zone.geometry (is_set zone.here) (read_device zone.geometry sectors.now written.now) zone.number zone.generation q }
 {
-    let n = zone.geometry.drives;
-    let mut clean = true;
-    let mut d = 0;
-    while d < n {
-        let b = drive_clean(sectors, written, zone, d, q);
-        clean = clean & b;
-        d += 1;
-    }
-    clean
+    (0..zone.geometry.drives).all(|d| drive_clean(sectors, written, zone, d, q))
 }
 
 // Rule 6: a zone's condition, the first that fits.
@@ -166,15 +139,12 @@ fn known_prefix(sectors: &[u8], written: &[u32], zone: Zone, limit: usize) -> us
         × (limit ≤ zone_sectors zone.geometry) }
     ensures { result ≡ min (known_prefix zone.geometry.drives zone.geometry.unit zone.number (zone_view zone.geometry (is_set zone.here) (read_device zone.geometry sectors.now written.now) zone.number zone.generation) (zone_sectors zone.geometry)) limit }
 {
-    let mut a = 0;
-    'scan: while a < limit {
-        let known = super::knowing::is_known(sectors, written, zone, limit, a);
-        if !known {
-            break 'scan;
+    for a in 0..limit {
+        if !super::knowing::is_known(sectors, written, zone, limit, a) {
+            return a;
         }
-        a += 1;
     }
-    a
+    limit
 }
 
 // Rules 3 and 5: a zone's pointer.

@@ -1,12 +1,13 @@
 // What the C edge makes of a call's numbers and bytes before the call, and of its outcome after it.
 ghost use Rattle.std.specs.Prelude.{◌≡◌, ◌+◌, ◌*◌, ◌<◌, length};
 ghost use Rattle.tables.specs.meaning.Geometry.{Valid};
+ghost use Rattle.volume.specs.checks.RefusalNumbers.{number_of};
 ghost use Rattle.volume.specs.meaning.CallContracts.{answer_number};
 ghost use Rattle.zrv.specs.meaning.Bytes.{state_bytes};
 ghost use Rattle.zrv.specs.meaning.EdgeCalls.{shape_of, named_of, sizes_fit, state_bad, input_number, sizes_number, unread_state, state_after, with_number, place_number};
 
 use tables::Geometry;
-use volume::{Answer, Outcome, State};
+use volume::{Answer, Outcome, Refusal, State};
 
 // What a number in the high 32 bits is multiplied by.
 pub const HIGH: u64 = 4294967296;
@@ -28,23 +29,13 @@ pub fn shape(drives: u32, sector_bytes: u32, unit: u32, zones: u32, zone_sectors
 pub fn named_drives(mask: u32) -> [bool; 8]
     ensures { result ≡ named_of mask }
 {
-    let m1 = mask / 2;
-    let m2 = m1 / 2;
-    let m3 = m2 / 2;
-    let m4 = m3 / 2;
-    let m5 = m4 / 2;
-    let m6 = m5 / 2;
-    let m7 = m6 / 2;
-    [
-        mask % 2 == 1,
-        m1 % 2 == 1,
-        m2 % 2 == 1,
-        m3 % 2 == 1,
-        m4 % 2 == 1,
-        m5 % 2 == 1,
-        m6 % 2 == 1,
-        m7 % 2 == 1,
-    ]
+    let mut named = [false; 8];
+    let mut bits = mask;
+    for drive in named.iter_mut() {
+        *drive = bits % 2 == 1;
+        bits /= 2;
+    }
+    named
 }
 
 // Refusal 2, of the state's and the tables' bytes.
@@ -69,32 +60,45 @@ pub fn state_bad(g: Geometry, bytes: &[u8]) -> bool
     !fits
 }
 
-// What is refused before a call that reads the state; 0 if nothing is.
-pub fn input_refusal(g: Geometry, state: &[u8], written: usize, durable: usize) -> u64
-    ensures { result ≡ input_number g state.now written durable }
+// What is refused before a call that reads the state.
+pub fn input_refusal(
+    g: Geometry,
+    state: &[u8],
+    written: usize,
+    durable: usize,
+) -> Result<(), Refusal>
+    ensures { number_of result ≡ input_number g state.now written durable }
 {
-    let ok = tables::bounds::valid(g);
-    if !ok {
-        return 1;
+    if !tables::bounds::valid(g) {
+        return Err(Refusal::Geometry);
     }
-    let bad = state_bad(g, state);
-    if bad {
-        return 1;
+    if state_bad(g, state) {
+        return Err(Refusal::Geometry);
     }
-    let fit = sizes_fit(g, state.len(), written, durable);
-    if fit { 0 } else { 2 }
+    if sizes_fit(g, state.len(), written, durable) {
+        Ok(())
+    } else {
+        Err(Refusal::Length)
+    }
 }
 
-// What is refused before a call that only writes the state; 0 if nothing is.
-pub fn sizes_refusal(g: Geometry, state: usize, written: usize, durable: usize) -> u64
-    ensures { result ≡ sizes_number g state written durable }
+// What is refused before a call that only writes the state.
+pub fn sizes_refusal(
+    g: Geometry,
+    state: usize,
+    written: usize,
+    durable: usize,
+) -> Result<(), Refusal>
+    ensures { number_of result ≡ sizes_number g state written durable }
 {
-    let ok = tables::bounds::valid(g);
-    if !ok {
-        return 1;
+    if !tables::bounds::valid(g) {
+        return Err(Refusal::Geometry);
     }
-    let fit = sizes_fit(g, state, written, durable);
-    if fit { 0 } else { 2 }
+    if sizes_fit(g, state, written, durable) {
+        Ok(())
+    } else {
+        Err(Refusal::Length)
+    }
 }
 
 // In place of the state that a format, look or mount never reads.

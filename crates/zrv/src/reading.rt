@@ -27,9 +27,8 @@ pub extern "C" fn zrv_read(
         ≡ read_edge (shape_of drives sector_bytes unit zones zone_sectors) named address sectors_to_read (ranges sectors.now written.now durable.now state.now) answer.old }
 {
     let g = super::input::shape(drives, sector_bytes, unit, zones, zone_sectors);
-    let refusal = super::input::input_refusal(g, state, written.len(), durable.len());
-    if refusal != 0 {
-        return refusal;
+    if let Err(refusal) = super::input::input_refusal(g, state, written.len(), durable.len()) {
+        return refusal.number() as u64;
     }
     let n = tables::bounds::table_cells(g);
     let here = super::input::named_drives(named);
@@ -37,8 +36,10 @@ pub extern "C" fn zrv_read(
     let ws = &mut w[..n];
     super::words::table_from(written, ws);
     let by = super::records::record_of(g, here, state, ws, durable, address);
-    let number = volume::by_record::read_record(sectors, ws, by, address, sectors_to_read, answer);
-    number as u64
+    match volume::by_record::read_record(sectors, ws, by, address, sectors_to_read, answer) {
+        Ok(()) => 0,
+        Err(refusal) => refusal.number() as u64,
+    }
 }
 
 // The offset in `sectors` of the sector at an address.
@@ -74,9 +75,8 @@ pub extern "C" fn zrv_peek(
         ≡ peek_edge (shape_of drives sector_bytes unit zones zone_sectors) named address (ranges sectors.now written.now durable.now state.now) place.old }
 {
     let g = super::input::shape(drives, sector_bytes, unit, zones, zone_sectors);
-    let refusal = super::input::input_refusal(g, state, written.len(), durable.len());
-    if refusal != 0 {
-        return refusal;
+    if let Err(refusal) = super::input::input_refusal(g, state, written.len(), durable.len()) {
+        return refusal.number() as u64;
     }
     if place.len() != 8 {
         return 2;
@@ -89,9 +89,8 @@ pub extern "C" fn zrv_peek(
     let ws = &mut w[..n];
     let ds = &mut d[..n];
     super::words::tables_from(g, written, durable, ws, ds);
-    let number = volume::reading::peek_refusal(sectors, ws, ds, g, here, old, address);
-    if number != 0 {
-        return number as u64;
+    if let Err(refusal) = volume::reading::peek_refusal(sectors, ws, ds, g, here, old, address) {
+        return refusal.number() as u64;
     }
     let at = offset_at(g, address);
     tables::bytes::write_u64(place, 0, at as u64);

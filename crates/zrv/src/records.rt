@@ -26,13 +26,6 @@ pub struct WriteCall {
     pub count: u32,
 }
 
-// Whether it was made, and then what it returns.
-#[derive(Clone, Copy)]
-pub struct WriteTried {
-    pub made: bool,
-    pub code: u64,
-}
-
 // What a call takes of its input for the zone of an address.
 pub fn record_of(
     g: Geometry,
@@ -87,7 +80,7 @@ fn allowance_in(
     let share = super::state::share_at(state, at);
     Allowance {
         known: true,
-        refusal: 0,
+        limits: Ok(()),
         share: share as usize,
     }
 }
@@ -96,8 +89,7 @@ fn allowance_in(
 fn share_less(share: u32, taken: usize) -> u32
     ensures { result ≡ share - taken }
 {
-    let left = tables::placement::saturating_sub(share as usize, taken);
-    left as u32
+    (share as usize).saturating_sub(taken) as u32
 }
 
 // What a write by a host that was made returns; finished, it leaves the lost drive, the record of zone z and the host's share in the state's bytes.
@@ -132,17 +124,7 @@ fn hand_record(tried: Recorded, host: u32, generation: u64, z: usize, state: &mu
     0
 }
 
-// A write that is not tried.
-fn not_tried() -> WriteTried
-    ensures { result.made ≡ false }
-{
-    WriteTried {
-        made: false,
-        code: 0,
-    }
-}
-
-// A write by a host that there is, in a zone that there is, if it needs nothing else of the state.
+// A write by a host that there is, in a zone that there is, if it needs nothing else of the state: what the call returns.
 fn write_in_zone(
     asked: WriteCall,
     z: usize,
@@ -151,7 +133,7 @@ fn write_in_zone(
     durable: &[u8],
     state: &mut [u8],
     buffer: &[u8],
-) -> WriteTried
+) -> Option<u64>
     requires input_taken { InputTaken asked.geometry state.old (length written.old) (length durable.now) }
     requires z_value { (z ≡ zone_of asked.geometry asked.address) × (z < asked.geometry.zones) × (asked.host < 2) }
     ensures { WrittenAs asked buffer.now (ranges sectors.old written.old durable.now state.old) result (ranges sectors.new written.new durable.now state.new) }
@@ -169,17 +151,11 @@ fn write_in_zone(
     let by = record_of(g, named, state, ws, durable, address);
     let record = by.record;
     let allowed = allowance_in(g, state, record, z, host, address, run);
-    let tried = volume::by_record::write_record(
+    let made = volume::by_record::write_record(
         sectors, ws, by, host, allowed, address, run, buffer, count,
-    );
-    let made = tried.made;
-    if !made {
-        return not_tried();
-    }
+    )?;
     super::words::table_to(ws, written);
-    let generation = record.generation;
-    let code = hand_record(tried, host, generation, z, state);
-    WriteTried { made: true, code }
+    Some(hand_record(made, host, record.generation, z, state))
 }
 
 // A write that passed the tests of its input, if it needs nothing else of the state. If it is not made, nothing has changed.
@@ -190,7 +166,7 @@ pub fn write_by_record(
     durable: &[u8],
     state: &mut [u8],
     buffer: &[u8],
-) -> WriteTried
+) -> Option<u64>
     requires { InputTaken asked.geometry state.old (length written.old) (length durable.now) }
     ensures { WrittenAs asked buffer.now (ranges sectors.old written.old durable.now state.old) result (ranges sectors.new written.new durable.now state.new) }
 {
@@ -199,7 +175,7 @@ pub fn write_by_record(
     let host = asked.host as usize;
     let z = volume::reading::zone_of(g, asked.address);
     if (zones <= z) | (HOSTS <= host) {
-        return not_tried();
+        return None;
     }
     write_in_zone(asked, z, sectors, written, durable, state, buffer)
 }

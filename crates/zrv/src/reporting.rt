@@ -2,33 +2,32 @@
 ghost use Rattle.std.specs.Prelude.{◌≡◌, ◌+◌, ◌*◌, ◌≤◌, length};
 ghost use Rattle.tables.specs.meaning.Geometry.{Valid};
 ghost use Rattle.tables.specs.meaning.Lists.{overlay};
+ghost use Rattle.volume.specs.checks.RefusalNumbers.{number_of};
 ghost use Rattle.volume.specs.meaning.CallContracts.{view_state};
 ghost use Rattle.zrv.specs.meaning.Bytes.{descriptor_to};
 ghost use Rattle.zrv.specs.meaning.EdgeCalls.{shape_of, answered, report_input, report_edge};
 ghost use Rattle.zrv.specs.laws.Report.{told_bytes};
 
 use tables::Geometry;
-use volume::{State, ZoneDescriptor};
+use volume::{Refusal, State, ZoneDescriptor};
 
 // The bytes of a descriptor.
 const DESCRIPTOR: usize = 32;
 
-// What is refused before a report; 0 if nothing is.
-fn report_refusal(g: Geometry, state: &[u8]) -> u64
-    ensures { result ≡ report_input g state.now }
+// What is refused before a report.
+fn report_refusal(g: Geometry, state: &[u8]) -> Result<(), Refusal>
+    ensures { number_of result ≡ report_input g state.now }
 {
-    let ok = tables::bounds::valid(g);
-    if !ok {
-        return 1;
+    if !tables::bounds::valid(g) {
+        return Err(Refusal::Geometry);
     }
-    let bad = super::input::state_bad(g, state);
-    if bad {
-        return 1;
+    if super::input::state_bad(g, state) {
+        return Err(Refusal::Geometry);
     }
     if state.len() == super::state::STATE_BYTES {
-        0
+        Ok(())
     } else {
-        2
+        Err(Refusal::Length)
     }
 }
 
@@ -54,11 +53,9 @@ fn fill_list(g: Geometry, state: State, n: usize, list: &mut [u8])
     requires n_le_zones { (n ≤ g.zones) × (n * 32 ≤ length list.old) }
     ensures { list.new ≡ told_bytes g (view_state state).condition n list.old }
 {
-    let mut z = 0;
-    while z < n {
+    for z in 0..n {
         let d = volume::reporting::describe(g, state, z);
         descriptor_to(d, list, z * DESCRIPTOR);
-        z += 1;
     }
 }
 
@@ -77,9 +74,8 @@ pub extern "C" fn zrv_report(
         ≡ report_edge (shape_of drives sector_bytes unit zones zone_sectors) state.now list.old }
 {
     let g = super::input::shape(drives, sector_bytes, unit, zones, zone_sectors);
-    let refusal = report_refusal(g, state);
-    if refusal != 0 {
-        return refusal;
+    if let Err(refusal) = report_refusal(g, state) {
+        return refusal.number() as u64;
     }
     let held = super::state::state_from(g, state);
     let n = volume::reporting::report_number(g, held, list.len() / DESCRIPTOR);

@@ -22,9 +22,13 @@ pub extern "C" fn zrv_format(
         ≡ format_edge (shape_of drives sector_bytes unit zones zone_sectors) named array count (ranges sectors.old written.old durable.old state.old) }
 {
     let g = super::input::shape(drives, sector_bytes, unit, zones, zone_sectors);
-    let refusal = super::input::sizes_refusal(g, state.len(), written.len(), durable.len());
-    if refusal != 0 {
-        return refusal;
+    if let Err(refusal) = super::input::sizes_refusal(
+        g,
+        state.len(),
+        written.len(),
+        durable.len(),
+    ) {
+        return refusal.number() as u64;
     }
     let n = tables::bounds::table_cells(g);
     let here = super::input::named_drives(named);
@@ -58,9 +62,13 @@ pub extern "C" fn zrv_look(
         ≡ look_edge (shape_of drives sector_bytes unit zones zone_sectors) named (ranges sectors.now written.now durable.now state.old) }
 {
     let g = super::input::shape(drives, sector_bytes, unit, zones, zone_sectors);
-    let refusal = super::input::sizes_refusal(g, state.len(), written.len(), durable.len());
-    if refusal != 0 {
-        return refusal;
+    if let Err(refusal) = super::input::sizes_refusal(
+        g,
+        state.len(),
+        written.len(),
+        durable.len(),
+    ) {
+        return refusal.number() as u64;
     }
     let n = tables::bounds::table_cells(g);
     let here = super::input::named_drives(named);
@@ -93,9 +101,13 @@ pub extern "C" fn zrv_mount(
         ≡ mount_edge (shape_of drives sector_bytes unit zones zone_sectors) named count (ranges sectors.old written.old durable.old state.old) }
 {
     let g = super::input::shape(drives, sector_bytes, unit, zones, zone_sectors);
-    let refusal = super::input::sizes_refusal(g, state.len(), written.len(), durable.len());
-    if refusal != 0 {
-        return refusal;
+    if let Err(refusal) = super::input::sizes_refusal(
+        g,
+        state.len(),
+        written.len(),
+        durable.len(),
+    ) {
+        return refusal.number() as u64;
     }
     let n = tables::bounds::table_cells(g);
     let here = super::input::named_drives(named);

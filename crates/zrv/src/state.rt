@@ -111,11 +111,8 @@ fn put_records(state: State, n: usize, bytes: &mut [u8])
     requires { (n ≤ 16) × (bytes.old ≡ records_part 0 state ++ shares_part 0 state) }
     ensures { bytes.new ≡ records_part n state ++ shares_part 0 state }
 {
-    let mut z = 0;
-    while z < n {
-        let r = state.zones[z];
-        record_to(r, bytes, HEAD_BYTES + RECORD_BYTES * z);
-        z += 1;
+    for z in 0..n {
+        record_to(state.zones[z], bytes, HEAD_BYTES + RECORD_BYTES * z);
     }
 }
 
@@ -124,11 +121,8 @@ fn put_shares(state: State, k: usize, bytes: &mut [u8])
     requires { (k ≤ 16) × (length bytes.old ≡ state_bytes) × (drop 264 bytes.old ≡ shares_part 0 state) }
     ensures { bytes.new ≡ take 264 bytes.old ++ shares_part k state }
 {
-    let mut i = 0;
-    while i < k {
-        let x = state.shares[i];
-        tables::bytes::write_u32(bytes, SHARES_START + i * SHARE_BYTES, x);
-        i += 1;
+    for i in 0..k {
+        tables::bytes::write_u32(bytes, SHARES_START + i * SHARE_BYTES, state.shares[i]);
     }
 }
 
@@ -153,10 +147,8 @@ fn shares_from(bytes: &[u8], k: usize) -> [u32; MAX_SHARES]
     ensures { result ≡ shares_below (λ (i : ℕ). read_le 4 bytes.now (264 + i * 4)) k }
 {
     let mut shares = [0u32; MAX_SHARES];
-    let mut i = 0;
-    while i < k {
+    for i in 0..k {
         shares[i] = share_at(bytes, i);
-        i += 1;
     }
     shares
 }
@@ -167,16 +159,11 @@ pub fn state_from(g: Geometry, bytes: &[u8]) -> State
     requires bytes_len { length bytes.now ≡ state_bytes }
     ensures { result ≡ state_from g bytes.now }
 {
-    let n = g.zones;
     let lost = tables::bytes::read_u64(bytes, 0) as usize;
     let shares = shares_from(bytes, g.drives * HOSTS);
-    let blank = volume::records::blank_record();
-    let mut zones = [blank; MAX_ZONES];
-    let mut z = 0;
-    while z < n {
-        let r = record_from(bytes, HEAD_BYTES + RECORD_BYTES * z);
-        zones[z] = r;
-        z += 1;
+    let mut zones = [volume::records::blank_record(); MAX_ZONES];
+    for z in 0..g.zones {
+        zones[z] = record_from(bytes, HEAD_BYTES + RECORD_BYTES * z);
     }
     State {
         lost,
@@ -204,26 +191,21 @@ fn records_fit(bytes: &[u8], n: usize, most: usize) -> bool
     ensures { result ≡ all_below (λ (z : ℕ). record_fits most bytes.now (8 + 16 * z)) n }
 {
     let mut ok = true;
-    let mut z = 0;
-    while z < n {
-        let fits = record_fits(bytes, HEAD_BYTES + RECORD_BYTES * z, most);
-        ok = ok & fits;
-        z += 1;
+    for z in 0..n {
+        ok &= record_fits(bytes, HEAD_BYTES + RECORD_BYTES * z, most);
     }
     ok
 }
 
 // Whether all bytes from `at` to `end` are zero. It leaves off at none, so that the compiler takes many at a time.
+#[tactic(auto, unfolding(crate::specs::laws::StateForm::zeros_between))]
 fn zeros_between(bytes: &[u8], at: usize, end: usize) -> bool
     requires { (at ≤ end) × (end ≤ length bytes.now) }
     ensures { result ≡ zeros_between bytes.now at end }
 {
-    let n = end - at;
     let mut zeros = true;
-    let mut i = 0;
-    while i < n {
-        zeros = zeros & (0 == bytes[at + i]);
-        i += 1;
+    for byte in &bytes[at..end] {
+        zeros &= *byte == 0;
     }
     zeros
 }

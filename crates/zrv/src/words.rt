@@ -13,11 +13,8 @@ pub fn table_from(bytes: &[u8], table: &mut [u32])
     requires { length bytes.now ≡ length table.old * 4 }
     ensures { table.new ≡ table_from (length table.old) bytes.now }
 {
-    let n = table.len();
-    let mut i = 0;
-    while i < n {
-        table[i] = tables::bytes::read_u32(bytes, i * 4);
-        i += 1;
+    for (i, word) in table.iter_mut().enumerate() {
+        *word = tables::bytes::read_u32(bytes, i * 4);
     }
 }
 
@@ -35,12 +32,8 @@ pub fn table_to(table: &[u32], bytes: &mut [u8])
     requires { length bytes.old ≡ length table.now * 4 }
     ensures { bytes.new ≡ table_to table.now }
 {
-    let n = table.len();
-    let mut i = 0;
-    while i < n {
-        let x = table[i];
-        tables::bytes::write_u32(bytes, i * 4, x);
-        i += 1;
+    for (i, word) in table.iter().enumerate() {
+        tables::bytes::write_u32(bytes, i * 4, *word);
     }
 }
 
@@ -50,47 +43,26 @@ fn drive_bad(g: Geometry, d: usize, written: &[u32], durable: &[u8]) -> bool
     requires logs_value { (g.logs ≡ 0) × (d < g.drives) × (length written.now ≡ cells g) × (length durable.now ≡ cells g * 4) }
     ensures { result ≡ any_below (pointer_bad g written.now (table_from (cells g) durable.now) d) (physical_zones g) }
 {
-    let z = g.zones + tables::DATA_ZONES;
-    let c = g.capacity;
     let row = tables::stores::row_of(g, d);
     let mut bad = false;
-    let mut y = 0;
-    while y < z {
+    for y in 0..g.zones + tables::DATA_ZONES {
         let at = row + y;
-        let w = written[at];
-        let k = tables::bytes::read_u32(durable, at * 4);
-        let v = tables::bounds::widen(w);
-        bad = bad | ((c < v) | (w < k));
-        y += 1;
+        let durable_at = tables::bytes::read_u32(durable, at * 4);
+        bad |= (g.capacity < written[at] as usize) | (written[at] < durable_at);
     }
     bad
 }
 
-// That, if the drive is named.
-fn named_bad(g: Geometry, named: bool, d: usize, written: &[u32], durable: &[u8]) -> bool
-    requires valid { Valid g }
-    requires logs_value { (g.logs ≡ 0) × (d < g.drives) × (length written.now ≡ cells g) × (length durable.now ≡ cells g * 4) }
-    ensures { result ≡ named && any_below (pointer_bad g written.now (table_from (cells g) durable.now) d) (physical_zones g) }
-{
-    if !named {
-        return false;
-    }
-    drive_bad(g, d, written, durable)
-}
-
 // Refusal 3: whether a named drive has a pointer that no drive can have.
+#[tactic(auto, unfolding(tables::specs::meaning::Tables::pointers_bad))]
 pub fn pointers_bad(g: Geometry, named: [bool; 8], written: &[u32], durable: &[u8]) -> bool
     requires valid { Valid g }
     requires logs_value { (g.logs ≡ 0) × (length written.now ≡ cells g) × (length durable.now ≡ cells g * 4) }
     ensures { result ≡ pointers_bad g named written.now (table_from (cells g) durable.now) }
 {
-    let n = g.drives;
     let mut bad = false;
-    let mut d = 0;
-    while d < n {
-        let b = named_bad(g, named[d], d, written, durable);
-        bad = bad | b;
-        d += 1;
+    for d in 0..g.drives {
+        bad |= named[d] && drive_bad(g, d, written, durable);
     }
     bad
 }

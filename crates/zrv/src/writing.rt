@@ -61,9 +61,8 @@ pub extern "C" fn zrv_write(
         ≡ write_edge (shape_of drives sector_bytes unit zones zone_sectors) named (write_of host address sectors_to_write buffer.now) count (ranges sectors.old written.old durable.now state.old) }
 {
     let g = super::input::shape(drives, sector_bytes, unit, zones, zone_sectors);
-    let refusal = super::input::input_refusal(g, state, written.len(), durable.len());
-    if refusal != 0 {
-        return refusal;
+    if let Err(refusal) = super::input::input_refusal(g, state, written.len(), durable.len()) {
+        return refusal.number() as u64;
     }
     let here = super::input::named_drives(named);
     let asked = WriteCall {
@@ -74,10 +73,10 @@ pub extern "C" fn zrv_write(
         run: sectors_to_write,
         count,
     };
-    let tried = super::records::write_by_record(asked, sectors, written, durable, state, buffer);
-    let made = tried.made;
-    if made {
-        return tried.code;
+    if let Some(code) = super::records::write_by_record(
+        asked, sectors, written, durable, state, buffer,
+    ) {
+        return code;
     }
     write_whole(asked, sectors, written, durable, state, buffer)
 }
@@ -101,9 +100,8 @@ pub extern "C" fn zrv_flush(
         ≡ flush_edge (shape_of drives sector_bytes unit zones zone_sectors) named count (ranges sectors.now written.now durable.old state.old) }
 {
     let g = super::input::shape(drives, sector_bytes, unit, zones, zone_sectors);
-    let refusal = super::input::input_refusal(g, state, written.len(), durable.len());
-    if refusal != 0 {
-        return refusal;
+    if let Err(refusal) = super::input::input_refusal(g, state, written.len(), durable.len()) {
+        return refusal.number() as u64;
     }
     let n = tables::bounds::table_cells(g);
     let here = super::input::named_drives(named);
@@ -138,9 +136,8 @@ pub extern "C" fn zrv_reset(
         ≡ reset_edge (shape_of drives sector_bytes unit zones zone_sectors) named zone count (ranges sectors.old written.old durable.old state.old) }
 {
     let g = super::input::shape(drives, sector_bytes, unit, zones, zone_sectors);
-    let refusal = super::input::input_refusal(g, state, written.len(), durable.len());
-    if refusal != 0 {
-        return refusal;
+    if let Err(refusal) = super::input::input_refusal(g, state, written.len(), durable.len()) {
+        return refusal.number() as u64;
     }
     let n = tables::bounds::table_cells(g);
     let here = super::input::named_drives(named);
@@ -176,9 +173,8 @@ pub extern "C" fn zrv_compact(
         ≡ compact_edge (shape_of drives sector_bytes unit zones zone_sectors) named drive count (ranges sectors.old written.old durable.old state.old) }
 {
     let g = super::input::shape(drives, sector_bytes, unit, zones, zone_sectors);
-    let refusal = super::input::input_refusal(g, state, written.len(), durable.len());
-    if refusal != 0 {
-        return refusal;
+    if let Err(refusal) = super::input::input_refusal(g, state, written.len(), durable.len()) {
+        return refusal.number() as u64;
     }
     let n = tables::bounds::table_cells(g);
     let here = super::input::named_drives(named);

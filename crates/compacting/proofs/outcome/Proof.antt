@@ -7,7 +7,7 @@ use Rattle.tables.specs.meaning.Basics.{pick}
 use Rattle.volume.specs.declared.State.{State}
 use Rattle.volume.specs.declared.Outcome.{Outcome}
 use Rattle.volume.specs.declared.Answer.TheVariants.{Finished, Unfinished}
-use Rattle.volume.specs.laws.StateHeld.{mapped_long, Sixteen}
+use Rattle.volume.specs.laws.StateHeld.{Sixteen}
 use Rattle.compacting.specs.Compacting.{renewed_list, ended_with, ended_state}
 use borrow.Author.Rules.{rules}
 use Rattle.compacting.proofs.outcome.Statement.{statement}

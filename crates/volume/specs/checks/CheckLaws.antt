@@ -132,6 +132,14 @@ opened g named s count bytes sectors ws ds h =
     let (l, b) = and_split (lengths_fit g sectors (length ws) (length ds)) (buffer_fits g count bytes) q.1 in
     record { valid = valid_if_test g v; logs_first = first_if_test g v; within = w; lengths = l; buffer = b; pointers = q.2; drives = q.3 }
 
+-- what the code found of them: none applies
+module _ (g : Geometry) (named : List Bool) (s : State) (within : Bool) (count bytes sectors : ℕ) (ws ds : List ℕ) (e : within ≡ is_valid g && state_within g (view_state s)) (n : 0 ≡ opening_from g named within s.lost count bytes sectors ws ds) where
+  pub none_opening : opening_number g named s count bytes sectors ws ds ≡ 0
+  none_opening = sym (n ∙ opening_is g named s within count bytes sectors ws ds e)
+
+  pub opened_by : Opened g named s count bytes sectors ws ds
+  opened_by = opened g named s count bytes sectors ws ds none_opening
+
 -- the number, case by case
 module _ (g : Geometry) (named : List Bool) (within : Bool) (lost count bytes sectors : ℕ) (ws ds : List ℕ) where
   pub opening_1 : within ≡ false → 1 ≡ opening_from g named within lost count bytes sectors ws ds

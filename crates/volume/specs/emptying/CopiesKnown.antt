@@ -1,10 +1,10 @@
 -- Refusal 15 of a write that empties a parity log, zone by zone: the entry at the zone's pointer has to be made, and a sector that it is made of is not known.
-use Rattle.std.specs.Prelude.{◌≡◌, Bool, true, false, ◌&&◌, ◌||◌, not, ℕ, ◌+◌, ◌*◌, ◌≤◌, ◌<◌, List, [], ◌∷◌, map, length, get_or, eqb}
+use Rattle.std.specs.Prelude.{◌≡◌, Bool, true, false, ◌&&◌, ◌||◌, not, ℕ, ◌*◌, ◌≤◌, ◌<◌, List, [], ◌∷◌, map, length, get_or, eqb}
 use Rattle.std.proofs.Math.Path.{refl}
-use Rattle.std.proofs.Common.{sym, ap, ◌∙◌, arith, ltb-true}
+use Rattle.std.proofs.Common.{ap, ◌∙◌, arith, ltb-true}
 use Rattle.tables.specs.declared.Geometry.{Geometry}
 use Rattle.tables.specs.meaning.Below.{any_below}
-use Rattle.tables.specs.meaning.Geometry.{physical_zones, stripe_sectors, zone_sectors, cells, total_bytes}
+use Rattle.tables.specs.meaning.Geometry.{physical_zones, stripe_sectors, cells, total_bytes}
 use Rattle.tables.specs.meaning.Placement.{stripe_of}
 use Rattle.tables.specs.meaning.Device.{Device}
 use Rattle.tables.specs.meaning.Tables.{cell}

@@ -1,15 +1,15 @@
 -- The logs of a kind emptied drive by drive (src/emptyings.rt). Each emptying reads what was there at the call's start, since the stores of those before it leave
 -- all of that alone. Carried to where the logs lie afterwards, they are the stores of the rules.
-use Rattle.std.specs.Prelude.{◌≡◌, refl, ◌≢◌, Bool, true, false, ℕ, zero, suc, ◌+◌, ◌-◌, ◌≤◌, ◌<◌, List, [], ◌∷◌, ◌++◌, map, length, get_or, take}
-use Rattle.std.proofs.Common.{sym, ap, ap₂, ◌∙◌, subst, le_refl, arith, length-take-le}
+use Rattle.std.specs.Prelude.{◌≡◌, refl, Bool, true, false, ℕ, zero, suc, ◌+◌, ◌≤◌, ◌<◌, List, [], ◌∷◌, ◌++◌, map, length, get_or, take}
+use Rattle.std.proofs.Common.{◌∙◌, subst, le_refl, arith}
 use Rattle.tables.specs.declared.Geometry.{Geometry}
 use Rattle.tables.specs.meaning.Basics.{pick}
 use Rattle.tables.specs.meaning.Below.{each_below}
-use Rattle.tables.specs.meaning.Geometry.{Valid, physical_zones, cells, total_bytes}
-use Rattle.tables.specs.meaning.Device.{Store, append, reset, flush}
+use Rattle.tables.specs.meaning.Geometry.{Valid, cells, total_bytes}
+use Rattle.tables.specs.meaning.Device.{Store, reset, flush}
 use Rattle.tables.specs.meaning.Phases.{flush_all, on_present}
-use Rattle.tables.specs.meaning.Tables.{Tables, tables_of, zone_place, device_of}
-use Rattle.tables.specs.laws.Made.{Made, WellSized}
+use Rattle.tables.specs.meaning.Tables.{tables_of, zone_place}
+use Rattle.tables.specs.laws.Made.{Made}
 use Rattle.tables.specs.laws.Counted.{made_nil, made_append}
 use Rattle.tables.specs.laws.Lists.{map_append}
 use Rattle.logs.specs.meaning.Entry.{spare_zone, kind_of_log, Header, counters, closing, encode}
@@ -27,7 +27,7 @@ use Rattle.volume.specs.rows.SameShape as rows
 use Rattle.volume.specs.rows.KeptBelow.{Behind, StoresIn, StoredKept, stores_in_append, on_present_in, pick_in, made_stored}
 use Rattle.volume.specs.emptying.Shape.{SameShape}
 use Rattle.volume.specs.emptying.Elsewhere.{SectorsLong, sectors_long_append}
-use Rattle.volume.specs.emptying.Moving.{Moves, Copying}
+use Rattle.volume.specs.emptying.Moving.{Copying}
 use Rattle.volume.specs.emptying.EmptyingStores.{with_closing, emptied_to}
 use Rattle.volume.specs.emptying.GeneralCopies.{by_generations, copies_below, copies_are, copies_long, counters_long, kept_label_long}
 

@@ -13,7 +13,6 @@ use Rattle.tables.specs.meaning.Tables.{Tables, device_of}
 use Rattle.logs.specs.declared.Fault.TheVariants.{NoMark, NotLegal, RowsPast}
 use Rattle.logs.specs.meaning.Entry.{general_zone, parity_zone}
 use Rattle.logs.specs.meaning.Walk.{Ending, at_pointer, no_entry, torn, walk_log}
-use Rattle.volume.specs.declared.Answer.{Answer}
 use Rattle.volume.specs.declared.Answer.TheVariants.{Finished, Unfinished, Refused, BadLog}
 use Rattle.volume.specs.declared.BadPlace.{BadPlace}
 use Rattle.volume.specs.declared.Outcome.{Outcome}

@@ -12,7 +12,7 @@ use Rattle.tables.specs.meaning.Tables.{Tables, run_stores}
 use Rattle.logs.specs.declared.Fault.{Fault}
 use Rattle.logs.specs.declared.Fault.TheVariants.{NoMark, NotLegal, RowsPast}
 use Rattle.logs.specs.meaning.Entry.{general_zone, parity_zone, fault_number}
-use Rattle.logs.specs.meaning.Walk.{Ending, at_pointer, no_entry, torn, Walked, walk_log}
+use Rattle.logs.specs.meaning.Walk.{Ending, at_pointer, no_entry, torn, walk_log}
 use Rattle.volume.specs.declared.Answer.{Answer}
 use Rattle.volume.specs.declared.Answer.TheVariants.{Finished, Unfinished, Refused, BadLog}
 use Rattle.volume.specs.declared.BadPlace.{BadPlace}

@@ -32,7 +32,7 @@ use Rattle.logs.specs.meaning.Entry.{general_zone, parity_zone, spare_zone, labe
 use Rattle.logs.specs.meaning.Walk.{sectors_of}
 use Rattle.volume.specs.declared.State.{State}
 use Rattle.volume.specs.meaning.State.{call_present}
-use Rattle.volume.specs.meaning.Content.{at, inside_stripe, fill_of, parity_drive_at, entry_at}
+use Rattle.volume.specs.meaning.Content.{inside_stripe, fill_of, parity_drive_at, entry_at}
 use Rattle.volume.specs.meaning.Rules.{general_heads, parity_entries}
 use Rattle.volume.specs.meaning.Refusals.{accept, WriteAsked, zone_asked, gone_before}
 use Rattle.volume.specs.meaning.Hosts.{share_left}

@@ -1,7 +1,6 @@
 -- What sectors claim to be: those of a log of one kind claim nothing in a walk for the other. And a log's strength by its first closing entry.
-use Rattle.std.specs.Prelude.{◌≡◌, refl, ◌⊎◌, Bool, true, false, not, ℕ, zero, suc, ◌<◌, List, [], ◌∷◌, map, ltb, eqb}
-use Rattle.std.proofs.Common.{sym, ap, ◌∙◌, inl, inr, arith, eq-eqb, ne_eqb, lt-ltb}
-use Rattle.tables.specs.meaning.Basics.{pick}
+use Rattle.std.specs.Prelude.{◌≡◌, refl, ◌⊎◌, Bool, true, false, not, ℕ, zero, suc, ◌<◌, List, [], ◌∷◌, map, eqb}
+use Rattle.std.proofs.Common.{sym, ap, inl, inr, arith, eq-eqb, ne_eqb, lt-ltb}
 use Rattle.tables.specs.declared.Geometry.{Geometry}
 use Rattle.logs.specs.meaning.Entry.{Header, Entry, bad, fault_of, encode, kind_of_log}
 use Rattle.logs.specs.meaning.Heads.{first_closing}

@@ -1,7 +1,6 @@
 -- The generations of a counters entry: one for each zone, each as its zone's, and each with room in its field.
-use Rattle.std.specs.Prelude.{◌≡◌, refl, ℕ, zero, suc, ◌+◌, ◌-◌, ◌^◌, ◌<◌, length, get_or}
+use Rattle.std.specs.Prelude.{◌≡◌, refl, ℕ, zero, suc, ◌+◌, ◌^◌, ◌<◌, length, get_or}
 use Rattle.std.proofs.Common.{ap, le_of_suc-le-suc, not-suc-le-zero, arith}
-use Rattle.logs.specs.meaning.Entry.{counters}
 use Rattle.tables.specs.laws.LittleEndian.{Small}
 use Rattle.volume.specs.meaning.Calls.{generations_from}
 

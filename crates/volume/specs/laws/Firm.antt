@@ -10,7 +10,7 @@ use Rattle.std.proofs.Math.Dec.{eqb}
 use borrow.Author.Tests.{ne_eqb, le-leb, lt-leb}
 use Rattle.tables.specs.laws.Basics.{Tri, lt, eq, gt, tri}
 use Rattle.tables.specs.meaning.Device.{ZoneView, Device, ZoneCut, Cut}
-use Rattle.tables.specs.laws.Device.{at, cut_at}
+use Rattle.tables.specs.laws.Device.{cut_at}
 use Rattle.tables.specs.laws.Through.{OneToOne}
 use Rattle.tables.specs.declared.Geometry.{Geometry}
 use Rattle.logs.specs.code.Judge.{and_false}

@@ -1,5 +1,5 @@
 -- What an accepted call has passed, read off its rows: of each storing call the conditions that do not apply, as facts about its input.
-use Rattle.std.specs.Prelude.{◌≡◌, Bool, true, false, ◌&&◌, not, ℕ, ◌+◌, ◌-◌, ◌*◌, ◌≤◌, ◌<◌, List, length, ltb, eqb}
+use Rattle.std.specs.Prelude.{◌≡◌, Bool, true, false, ◌&&◌, not, ℕ, ◌+◌, ◌*◌, ◌≤◌, ◌<◌, List, length, ltb, eqb}
 use Rattle.std.proofs.Math.Path.{refl}
 use Rattle.std.proofs.Common.{true≢false, arith, lt-ltb, ltb-true, ltb-false, eqb-true}
 use Rattle.tables.specs.declared.Geometry.{Geometry}

@@ -8,7 +8,7 @@ use Rattle.volume.specs.declared.Answer.TheVariants.{Finished, Refused}
 use Rattle.volume.specs.declared.Condition.{Condition}
 use Rattle.volume.specs.declared.ZoneDescriptor.{ZoneDescriptor}
 use Rattle.volume.specs.meaning.State.{StateView}
-use Rattle.volume.specs.meaning.Report.{descriptor_of, may_report, filled_number, filled_list, ReportResult, report_of, report_on}
+use Rattle.volume.specs.meaning.Report.{descriptor_of, may_report, filled_number, ReportResult, report_of, report_on}
 
 pub report_finished : (g : Geometry) (state : StateView) → may_report g state ≡ true → (list : List ZoneDescriptor) → report_on g state list ≡ report_of g state.condition list
 unfolding report_on

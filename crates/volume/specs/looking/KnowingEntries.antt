@@ -27,7 +27,6 @@ use Rattle.volume.specs.meaning.Rules.{ParityEntry, Found, found, nothing, or_el
 use Rattle.volume.specs.meaning.CallContracts.{is_set}
 use Rattle.volume.specs.looking.Knowing.{read_device, Readable, held_on, stripe_end, reach_of, serving_place, row_complete, source_of, has_source}
 use Rattle.volume.specs.looking.KnowingLaws.{leb_min, stripe_end_small, parity_in, entries_are, held_is, reach_is, reach_most, stripe_end_is, by_parity_is}
-use Rattle.logs.specs.code.Judge as judge
 use Rattle.volume.specs.declared.knowing.Source.TheVariants as way
 
 -- ---- an entry as rule 4 reads it

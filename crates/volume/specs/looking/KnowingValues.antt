@@ -1,5 +1,5 @@
 -- The value of a sector by each of the three ways, as the code makes it: that it is rule 4's.
-use Rattle.std.specs.Prelude.{◌≡◌, ◌≢◌, ◌⊎◌, Bool, ◌&&◌, ℕ, zero, suc, ◌+◌, ◌-◌, ◌*◌, ◌≤◌, ◌<◌, min, length, get_or, drop, leb}
+use Rattle.std.specs.Prelude.{◌≡◌, ◌⊎◌, Bool, ◌&&◌, ℕ, zero, suc, ◌+◌, ◌-◌, ◌*◌, ◌≤◌, ◌<◌, min, length, get_or, drop, leb}
 use Rattle.std.proofs.Math.Path.{refl, sym, ap, ap₂}
 use Rattle.std.proofs.Common.{◌∙◌, inl, inr, true≢false, arith, length-drop, get_or-take, get_or-drop, length-take-le}
 use Rattle.std.proofs.Math.Bool.{true, false}
@@ -19,7 +19,7 @@ use Rattle.tables.specs.meaning.Tables.{cell, sector_at}
 use Rattle.tables.specs.laws.Tables.{sector_in}
 use Rattle.tables.specs.meaning.Xor.{xor_bytes, xor_below, without}
 use Rattle.tables.specs.laws.Xor.{xor_below_cong}
-use Rattle.logs.specs.meaning.Entry.{Header, label, counters, zone_reset, partial_parity, seal, closing, Entry, parity_zone, rows_of, Decoded, decode, legal, fits_log}
+use Rattle.logs.specs.meaning.Entry.{Header, label, counters, zone_reset, partial_parity, seal, closing, parity_zone, rows_of, Decoded, decode, legal, fits_log}
 use Rattle.logs.specs.laws.Entry.{decode_legal}
 use Rattle.logs.specs.code.Judge.{seen, partial_small}
 use Rattle.logs.specs.laws.Heads.{ends_within}

@@ -1,7 +1,7 @@
 -- The logs after an emptying, as the code places them (src/roles.rt, `move_logs`): on each drive whose log of the kind was emptied, that log lies where the spare
 -- lay. By the roles: that is `roles_after`.
 use Rattle.std.specs.Prelude.{◌≡◌, refl, Bool, true, false, ◌&&◌, not, ℕ, zero, suc, ◌+◌, ◌*◌, ◌^◌, ◌≤◌, ◌<◌}
-use Rattle.std.proofs.Common.{sym, ap, ◌∙◌, arith, add-one}
+use Rattle.std.proofs.Common.{ap, arith, add-one}
 use Rattle.std.proofs.Math.Decide.{dec_lt}
 use Rattle.tables.specs.declared.Geometry.{Geometry}
 use Rattle.tables.specs.meaning.Basics.{pick}

@@ -14,7 +14,7 @@ use Rattle.tables.specs.meaning.Tables.{tables_of, device_of, cell, zone_place}
 use Rattle.tables.specs.laws.ZonePlaces.{place_in}
 use Rattle.volume.specs.declared.roles.LogPlaces.{LogPlaces}
 use Rattle.volume.specs.meaning.CallContracts.{is_set, seen_in}
-use Rattle.volume.specs.meaning.Roles.{Roles, roles, zone_of_role, by_roles}
+use Rattle.volume.specs.meaning.Roles.{roles, zone_of_role, by_roles}
 use Rattle.volume.specs.meaning.Rules.{View, zone_view}
 use Rattle.volume.specs.meaning.Refusals.{kind_lacks}
 use Rattle.volume.specs.laws.LogPlaces.{with_logs, with_roles, valid_with_logs, roles_proper, cell_by_role, zone_by_role, role_of_other}

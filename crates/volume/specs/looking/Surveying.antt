@@ -12,6 +12,7 @@ use Rattle.tables.specs.meaning.Geometry.{physical_zones}
 use Rattle.tables.specs.meaning.Device.{Device}
 use Rattle.tables.specs.meaning.Tables.{tables_of, device_of, cell, zone_place}
 use Rattle.tables.specs.laws.TablesFrame.{pointers_good}
+use Rattle.volume.specs.checks.RefusalNumbers.{number_of}
 use Rattle.volume.specs.declared.State.{State}
 use Rattle.volume.specs.declared.Outcome.{Outcome}
 use Rattle.volume.specs.declared.Answer.TheVariants.{Finished}
@@ -36,7 +37,7 @@ use Rattle.volume.specs.meaning.Mount.{shown_state}
 pub record Surveyed (g : Geometry) (named : List Bool) (xs ws : List ℕ) (v : Survey) (ps : List ℕ) : Type 0 where
   pub seen : Seen g xs ws v.places ps
   pub present : is_set v.here ≡ is_present v.places.geometry (is_set named) (read_device v.places.geometry xs ps)
-  pub refused : v.refusal ≡ log_number v.places v.here (read_device v.places.geometry xs ps)
+  pub refused : number_of v.refusal ≡ log_number v.places v.here (read_device v.places.geometry xs ps)
   pub bad_is : v.bad ≡ first_bad_place v.places.geometry (is_set v.here) (zone_place v.places.geometry) (read_device v.places.geometry xs ps)
 
 -- rows 4 to 6 by what each asks
@@ -91,7 +92,7 @@ module _ (g : Geometry) (named : List Bool) (xs ws : List ℕ) (v : Survey) (ps 
   logs_are = by_present bad_logs (λ n x. bad_logs_alike g n (is_set v.here) x) (logs_read h xs ps ds (is_set v.here))
 
   -- ---- THE REFUSAL is the look's, in tables of the right shape
-  pub survey_refusal : shape_number g named (length xs) ws ds ≡ 0 → v.refusal ≡ verdict_number (look_verdict g named (tables_of xs ws ds))
+  pub survey_refusal : shape_number g named (length xs) ws ds ≡ 0 → number_of v.refusal ≡ verdict_number (look_verdict g named (tables_of xs ws ds))
   unfolding log_number
   survey_refusal e = s.refused ∙ (λ i. rows_by (two_is i) (kind_is i) (labels_are i) (logs_are i)) ∙ sym (look_late g named xs ws ds e)
 
@@ -122,7 +123,7 @@ module _ (g : Geometry) (named : List Bool) (xs ws : List ℕ) (v : Survey) (ps 
       }
 
   -- ---- THE OUTCOME (q: the state that the drives show)
-  pub survey_finished : (old : State) → shape_number g named (length xs) ws ds ≡ 0 → v.refusal ≡ 0 → (q : State) → q ≡ state_seen v.places v.here xs ps
+  pub survey_finished : (old : State) → shape_number g named (length xs) ws ds ≡ 0 → number_of v.refusal ≡ 0 → (q : State) → q ≡ state_seen v.places v.here xs ps
       → ◌≡◌ {A = Outcome} (record { answer = Finished; state = q }) (look_on g named old (tables_of xs ws ds))
   unfolding look_on
   survey_finished old shape passed q e =

@@ -1,14 +1,14 @@
 -- A read by one zone's record (src/by_record.rt): the read of the call by every state that says so of the zone.
 use Rattle.std.specs.Prelude.{◌≡◌, ◌≢◌, ℕ, ◌≤◌, ◌<◌, List, length}
-use Rattle.std.proofs.Common.{sym, ap, ap₂, ◌∙◌, subst, arith}
-use Rattle.tables.specs.meaning.Geometry.{Valid, zone_sectors}
+use Rattle.std.proofs.Common.{sym, ap₂, ◌∙◌, arith}
+use Rattle.tables.specs.meaning.Geometry.{zone_sectors}
 use Rattle.tables.specs.meaning.Tables.{tables_of}
 use Rattle.volume.specs.declared.State.{State}
 use Rattle.volume.specs.declared.ZoneRecord.{ZoneRecord}
 use Rattle.volume.specs.declared.by_record.ByRecord.{ByRecord}
 use Rattle.volume.specs.meaning.Refusals.{zone_of, offset_of}
-use Rattle.volume.specs.meaning.CallContracts.{record_at, read_number, read_on}
-use Rattle.volume.specs.checks.CheckLaws.{present_list, opened_from, opening_number, opens}
+use Rattle.volume.specs.meaning.CallContracts.{read_number, read_on}
+use Rattle.volume.specs.checks.CheckLaws.{opened_from, opening_number, opens}
 use Rattle.volume.specs.checks.ByRecord.{RecordFits, SaysOf, present_named, opening_by}
 use Rattle.volume.specs.reading.Reading.{buffer_long, read_first, read_8, read_refused}
 use Rattle.volume.specs.reading.ReadZone.{ReadAsked, zone_read_number, zone_read_left, zone_by, zone_read_is, zone_left_is}

@@ -1,6 +1,6 @@
 -- A read in a zone that there is, once refusals 1 to 4 have passed: by the drives that are here, the zone's condition and its generation, whatever the state says of
 -- other zones.
-use Rattle.std.specs.Prelude.{◌≡◌, refl, Bool, false, not, length, ltb, eqb}
+use Rattle.std.specs.Prelude.{◌≡◌, Bool, false, not, length, ltb, eqb}
 use Rattle.std.proofs.Math.Path.{sym, ap, ap₂}
 use Rattle.std.proofs.Common.{◌∙◌, ltb-false}
 use Prim.Native.Nat.{ℕ, ◌+◌, ◌*◌, ◌≤◌, ◌<◌}
@@ -19,7 +19,7 @@ use Rattle.volume.specs.meaning.State.{pointer_in, call_present}
 use Rattle.volume.specs.meaning.Refusals.{gone_in, bad_run, zone_of, offset_of}
 use Rattle.volume.specs.meaning.CallContracts.{record_at, view_state, is_set, seen_in, read_number, values_on, read_on}
 use Rattle.volume.specs.checks.CheckLaws.{present_list, present_is, opening_number, opened}
-use Rattle.volume.specs.checks.ZoneChecks.{stale_on, PointersReach, reached}
+use Rattle.volume.specs.checks.ZoneChecks.{stale_on, reached}
 use Rattle.volume.specs.looking.Knowing.{Readable}
 use Rattle.volume.specs.reading.Reading.{read_by_roles, late_number, late_none, late_is, opened_sized, values_seen, RunReady}
 

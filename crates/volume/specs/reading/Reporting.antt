@@ -1,5 +1,5 @@
 -- The report in the code's terms: what its functions hand on, which zones it describes, and one turn of its loop.
-use Rattle.std.specs.Prelude.{◌≡◌, Bool, ◌&&◌, ℕ, zero, suc, ◌+◌, ◌*◌, ◌<◌, ◌≤◌, List, [], ◌∷◌, ◌++◌, length, get_or, set, drop}
+use Rattle.std.specs.Prelude.{◌≡◌, Bool, ℕ, suc, ◌*◌, ◌<◌, ◌≤◌, List, ◌++◌, length, get_or, set, drop}
 use Rattle.std.proofs.Math.Path.{refl, ap}
 use Rattle.std.proofs.Common.{sym, ◌∙◌, length-append, length-drop, drop-cons}
 use Rattle.std.proofs.Math.Bool.{true, false}
@@ -16,7 +16,6 @@ use Rattle.tables.specs.laws.Below.{length_tabulate}
 use Rattle.tables.specs.meaning.Geometry.{Valid, zone_sectors}
 use Rattle.tables.specs.meaning.GeometryTest.{is_valid}
 use Rattle.tables.specs.laws.GeometryTest.{valid_if_test}
-use Rattle.volume.specs.declared.Answer.{Answer}
 use Rattle.volume.specs.declared.Answer.TheVariants.{Finished, Refused}
 use Rattle.volume.specs.declared.Condition.{Condition}
 use Rattle.volume.specs.declared.Reported.{Reported}
@@ -24,7 +23,7 @@ use Rattle.volume.specs.declared.ReportedCondition.{ReportedCondition}
 use Rattle.volume.specs.declared.ZoneDescriptor.{ZoneDescriptor}
 use Rattle.volume.specs.meaning.State.{StateView, pointer_in}
 use Rattle.volume.specs.meaning.Refusals.{state_within}
-use Rattle.volume.specs.meaning.Report.{told_of, descriptor_of, may_report, filled_number, filled_list, ReportResult, report_of, report_on}
+use Rattle.volume.specs.meaning.Report.{told_of, descriptor_of, may_report, filled_number, filled_list, report_of, report_on}
 
 -- what is handed back with a number
 abbrev pub reported_as : Geometry → StateView → ℕ → Reported

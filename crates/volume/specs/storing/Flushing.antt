@@ -1,5 +1,5 @@
 -- A flush on the tables, and the laws by which its loop and its answer are proved.
-use Rattle.std.specs.Prelude.{◌≡◌, refl, Bool, true, false, ◌&&◌, ℕ, suc, ◌+◌, ◌-◌, ◌*◌, List, [], ◌∷◌, ◌++◌, length}
+use Rattle.std.specs.Prelude.{◌≡◌, refl, Bool, true, false, ◌&&◌, ℕ, suc, ◌*◌, List, [], ◌∷◌, ◌++◌, length}
 use Rattle.std.proofs.Common.{ap, ◌∙◌, arith, eq-eqb}
 use Rattle.tables.specs.meaning.Tables.{buffer_fits, lengths_fit, tables_of}
 use Rattle.tables.specs.laws.Made.{store_if}

@@ -1,5 +1,5 @@
 -- A reset on the tables: its refusals as numbers, its six phases as the code makes them, and the state that it hands on.
-use Rattle.std.specs.Prelude.{◌≡◌, ◌≢◌, Bool, true, false, ◌&&◌, ◌||◌, not, ℕ, zero, ◌+◌, ◌≤◌, ◌<◌, List, [], ◌∷◌, ◌++◌, length, take, ltb, leb, eqb}
+use Rattle.std.specs.Prelude.{◌≡◌, ◌≢◌, Bool, true, false, ◌&&◌, ◌||◌, not, ℕ, zero, ◌≤◌, ◌<◌, List, [], ◌∷◌, ◌++◌, length, take, ltb, leb, eqb}
 use Rattle.std.proofs.Math.Path.{refl}
 use Rattle.std.proofs.Common.{sym, ap, ◌∙◌, arith, eq-eqb, ne_eqb, lt-ltb, le-ltb, leb-false}
 use Rattle.std.proofs.Math.Decide.{ℕ_discrete, dec_lt}

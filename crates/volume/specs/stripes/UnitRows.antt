@@ -1,5 +1,5 @@
 -- Units of a stripe: a unit's sectors joined are one part of a write's buffer, and the rows of a complete stripe joined are the exclusive or of its units.
-use Rattle.std.specs.Prelude.{◌≡◌, refl, ℕ, zero, suc, ◌+◌, ◌-◌, ◌*◌, ◌≤◌, ◌<◌, List, [], ◌∷◌, ◌++◌, length, take, drop}
+use Rattle.std.specs.Prelude.{◌≡◌, refl, ℕ, zero, suc, ◌+◌, ◌*◌, ◌≤◌, ◌<◌, List, [], ◌∷◌, ◌++◌, length, take, drop}
 use Rattle.std.proofs.Common.{sym, ap, ◌∙◌, suc-mul, arith, take-add, drop-drop}
 use Rattle.std.specs.Int.Bits.{bit_xor}
 use Rattle.tables.specs.meaning.Below.{tabulate_from}

@@ -1,5 +1,5 @@
 -- Appends to one zone, one after the other, are one: the sectors lie there joined. Units of a stripe on drives of their own.
-use Rattle.std.specs.Prelude.{◌≡◌, ◌≢◌, ℕ, zero, suc, ◌+◌, ◌-◌, ◌*◌, ◌≤◌, ◌<◌, set}
+use Rattle.std.specs.Prelude.{◌≡◌, ◌≢◌, ℕ, zero, suc, ◌+◌, ◌*◌, ◌≤◌, ◌<◌, set}
 use Rattle.std.proofs.Math.Path.{refl, ap, ap₂}
 use Rattle.std.proofs.Common.{sym, ◌∙◌, inl, inr, mul-le-mul_right, length-set, length-append, set-set, get_or-set_other, lt-ltb}
 use Rattle.std.proofs.Math.Nat.{suc-mul}

@@ -9,6 +9,7 @@ use Rattle.tables.specs.declared.Geometry.{Geometry}
 use Rattle.tables.specs.meaning.Basics.{pick}
 use Rattle.tables.specs.laws.Basics.{or_none}
 use Rattle.tables.specs.meaning.Geometry.{zone_sectors}
+use Rattle.volume.specs.checks.RefusalNumbers.{number_of}
 use Rattle.volume.specs.declared.Condition.{Condition}
 use Rattle.volume.specs.declared.writing.Run.{Run}
 use Rattle.volume.specs.meaning.State.{pointer_in, is_sealed, is_worn}
@@ -31,7 +32,7 @@ abbrev pub run_number_of : Run → Condition → ℕ
 run_number_of run c = run_number run.zone.geometry c run.pointer run.count
 
 unfoldable pub zone_number : Run → Condition → List ℕ → ℕ
-zone_number run c ws = around_run (is_stale_for run c ws) run.allowance.known (run_number_of run c) run.allowance.refusal
+zone_number run c ws = around_run (is_stale_for run c ws) run.allowance.known (run_number_of run c) (number_of run.allowance.limits)
 
 -- what passing 9 to 12 gives
 pub record RunFits (g : Geometry) (c : Condition) (offset count : ℕ) : Type 0 where
@@ -56,7 +57,7 @@ pub record ZonePassed (run : Run) (c : Condition) (ws : List ℕ) : Type 0 where
   pub fresh : is_stale_for run c ws ≡ false
   pub known : run.allowance.known ≡ true
   pub fits : RunFits run.zone.geometry c run.pointer run.count
-  pub allowed : run.allowance.refusal ≡ 0
+  pub allowed : number_of run.allowance.limits ≡ 0
 
 -- ---- the number of a zone that there is, case by case
 module _ (run : Run) (c : Condition) (ws : List ℕ) where
@@ -72,7 +73,7 @@ module _ (run : Run) (c : Condition) (ws : List ℕ) where
   unfolding zone_number
   zone_run a b n = rw (a, b, ne_eqb (run_number_of run c) 0 n) refl
 
-  pub zone_host : is_stale_for run c ws ≡ false → run.allowance.known ≡ true → run_number_of run c ≡ 0 → run.allowance.refusal ≡ zone_number run c ws
+  pub zone_host : is_stale_for run c ws ≡ false → run.allowance.known ≡ true → run_number_of run c ≡ 0 → number_of run.allowance.limits ≡ zone_number run c ws
   unfolding zone_number
   zone_host a b n = rw (a, b, eq-eqb (run_number_of run c) 0 n) refl
 
@@ -80,11 +81,11 @@ module _ (run : Run) (c : Condition) (ws : List ℕ) where
   unfolding zone_number
   zone_passed h = go (is_stale_for run c ws) refl run.allowance.known refl (ℕ_discrete (run_number_of run c) 0) h
     where
-      go : (a : Bool) → is_stale_for run c ws ≡ a → (b : Bool) → run.allowance.known ≡ b → Dec (run_number_of run c ≡ 0) → around_run a b (run_number_of run c) run.allowance.refusal ≡ 0 → ZonePassed run c ws
+      go : (a : Bool) → is_stale_for run c ws ≡ a → (b : Bool) → run.allowance.known ≡ b → Dec (run_number_of run c ≡ 0) → around_run a b (run_number_of run c) (number_of run.allowance.limits) ≡ 0 → ZonePassed run c ws
       go true p b q d e = absurd (omega arith)
       go false p false q d e = absurd (omega arith)
-      go false p true q (yes n) e = record { fresh = p; known = q; fits = run_fits run.zone.geometry c run.pointer run.count n; allowed = sym (ap (λ (b : Bool). pick b run.allowance.refusal (run_number_of run c)) (eq-eqb (run_number_of run c) 0 n)) ∙ e }
-      go false p true q (no n) e = absurd (n (sym (ap (λ (b : Bool). pick b run.allowance.refusal (run_number_of run c)) (ne_eqb (run_number_of run c) 0 n)) ∙ e))
+      go false p true q (yes n) e = record { fresh = p; known = q; fits = run_fits run.zone.geometry c run.pointer run.count n; allowed = sym (ap (λ (b : Bool). pick b (number_of run.allowance.limits) (run_number_of run c)) (eq-eqb (run_number_of run c) 0 n)) ∙ e }
+      go false p true q (no n) e = absurd (n (sym (ap (λ (b : Bool). pick b (number_of run.allowance.limits) (run_number_of run c)) (ne_eqb (run_number_of run c) 0 n)) ∙ e))
 
 -- ---- the same of the rules' rows
 -- 18 or 19 is asked only where the rows before have passed
@@ -110,11 +111,11 @@ after_rows false true false false false false true o rest = refl
 after_rows false true false false false false false true rest = refl
 after_rows false true false false false false false false rest = refl
 
-pub after_zone : (run : Run) (c : Condition) (ws : List ℕ) (l o : Bool) (rest : List (ℕ × Bool)) → (run.allowance.known ≡ true → RunFits run.zone.geometry c run.pointer run.count → pick l 18 (pick o 19 0) ≡ run.allowance.refusal)
+pub after_zone : (run : Run) (c : Condition) (ws : List ℕ) (l o : Bool) (rest : List (ℕ × Bool)) → (run.allowance.known ≡ true → RunFits run.zone.geometry c run.pointer run.count → pick l 18 (pick o 19 0) ≡ (number_of run.allowance.limits))
     → verdict_number (first_refusal ((7, is_stale_for run c ws) ∷ (8, not run.allowance.known) ∷ (9, bad_run run.zone.geometry run.pointer run.count) ∷ (10, not (eqb run.pointer (pointer_in c))) ∷ (11, is_sealed c) ∷ (12, is_worn c) ∷ (18, l) ∷ (19, o) ∷ rest))
     ≡ pick (eqb (zone_number run c ws) 0) (verdict_number (first_refusal rest)) (zone_number run c ws)
 unfolding zone_number run_number
 after_zone run c ws l o rest e =
     let g = run.zone.geometry in
     after_rows (is_stale_for run c ws) run.allowance.known (bad_run g run.pointer run.count) (not (eqb run.pointer (pointer_in c))) (is_sealed c) (is_worn c) l o rest
-    ∙ ap (λ (n : ℕ). pick (eqb n 0) (verdict_number (first_refusal rest)) n) (around_same (is_stale_for run c ws) run.allowance.known (run_number_of run c) (pick l 18 (pick o 19 0)) run.allowance.refusal (λ k n. e k (run_fits g c run.pointer run.count n)))
+    ∙ ap (λ (n : ℕ). pick (eqb n 0) (verdict_number (first_refusal rest)) n) (around_same (is_stale_for run c ws) run.allowance.known (run_number_of run c) (pick l 18 (pick o 19 0)) (number_of run.allowance.limits) (λ k n. e k (run_fits g c run.pointer run.count n)))

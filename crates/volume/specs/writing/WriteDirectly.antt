@@ -1,7 +1,7 @@
 -- A write that needs no log but that of its entry (src/write_directly.rt). Where the earlier sectors of its first stripe are held, and there is no entry or its
 -- host's share and its log have the room that it asks for, refusals 14 and 15 do not apply, and the stores of the rules are those by a geometry that places
 -- that one log.
-use Rattle.std.specs.Prelude.{◌≡◌, ◌≢◌, ◌&&◌, ◌||◌, leb, eqb}
+use Rattle.std.specs.Prelude.{◌≡◌, ◌≢◌, ◌&&◌, ◌||◌, leb, eqb, Option, Some, None, Result, Ok, Err}
 use Rattle.std.proofs.Math.Path.{refl, sym, ap, ap₂, subst}
 use Rattle.std.proofs.Common.{◌∙◌, true≢false, arith, le-ltb, ltb-true, leb-true, ne_eqb}
 use Rattle.std.proofs.Math.Bool.{Bool, true, false, not}
@@ -28,7 +28,9 @@ use Rattle.logs.specs.meaning.Entry.{parity_zone}
 use Rattle.volume.specs.declared.State.{State}
 use Rattle.volume.specs.declared.writing.Run.{Run}
 use Rattle.volume.specs.declared.write_directly.EntryPlace.{EntryPlace}
-use Rattle.volume.specs.declared.write_directly.Tried.{Tried}
+use Rattle.volume.specs.declared.write_directly.WriteMade.{WriteMade}
+use Rattle.volume.specs.declared.Refusal.{Refusal}
+use Rattle.volume.specs.checks.RefusalNumbers.{refusal_number}
 use Rattle.volume.specs.declared.write_room.EntryTaken.{EntryTaken}
 use Rattle.volume.specs.declared.Condition.{Condition}
 use Rattle.volume.specs.meaning.Content.{at, inside_stripe, fill_of, parity_drive_at}
@@ -80,13 +82,18 @@ and_false : (b : Bool) → b && false ≡ false
 and_false true = refl
 and_false false = refl
 
--- what trying a write came to: refused, or made, or neither, and then nothing has changed
-pub record TriedOn (run : Run) (c : Condition) (count : ℕ) (buffer xs ws xs' ws' : List ℕ) (r : Tried) : Type 0 where
-  pub refusal_is : r.refusal ≡ zone_number run c ws
-  pub alone : r.made ≡ true → (r.refusal ≡ 0) × ((direct_place run xs ws).alone ≡ true)
-  pub entry_is : r.made ≡ true → (r.entry ≡ entry_taken_of run.zone (end_of run)) × (r.entry.drive < run.zone.geometry.drives) × (r.entry.sectors ≤ 17)
-  pub stores : r.made ≡ true → MadeAppends (direct_place run xs ws).geometry (suc count) r.rest (run_stores_of run xs ws buffer) xs ws xs' ws'
-  pub kept : r.made ≡ false → (xs' ≡ xs) × (ws' ≡ ws)
+-- a write that was made
+pub record MadeOn (run : Run) (c : Condition) (count : ℕ) (buffer xs ws xs' ws' : List ℕ) (m : WriteMade) : Type 0 where
+  pub passed : zone_number run c ws ≡ 0
+  pub alone : (direct_place run xs ws).alone ≡ true
+  pub entry_is : (m.entry ≡ entry_taken_of run.zone (end_of run)) × (m.entry.drive < run.zone.geometry.drives) × (m.entry.sectors ≤ 17)
+  pub stores : MadeAppends (direct_place run xs ws).geometry (suc count) m.rest (run_stores_of run xs ws buffer) xs ws xs' ws'
+
+-- what trying a write came to: refused, or made, or neither; and then nothing has changed
+abbrev pub TriedOn : Run → Condition → ℕ → List ℕ → List ℕ → List ℕ → List ℕ → List ℕ → Result (Option WriteMade) Refusal → Type 0
+TriedOn run c count buffer xs ws xs' ws' (Err r) = (refusal_number r ≡ zone_number run c ws) × (xs' ≡ xs) × (ws' ≡ ws)
+TriedOn run c count buffer xs ws xs' ws' (Ok None) = (zone_number run c ws ≡ 0) × (xs' ≡ xs) × (ws' ≡ ws)
+TriedOn run c count buffer xs ws xs' ws' (Ok (Some m)) = MadeOn run c count buffer xs ws xs' ws' m
 
 module _ (run : Run) (xs ws buffer : List ℕ) (ok : Valid run.zone.geometry) (logs_first : run.zone.geometry.logs ≡ 0) (sized : Sized run.zone.geometry xs ws) (p : RunPlaced run ws buffer) (alone : (direct_place run xs ws).alone ≡ true) where
   abbrev g : Geometry

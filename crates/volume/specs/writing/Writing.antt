@@ -13,6 +13,7 @@ use Rattle.tables.specs.meaning.Drives.{find_below}
 use Rattle.tables.specs.meaning.Device.{Store}
 use Rattle.tables.specs.meaning.Tables.{Tables, tables_of, device_of, buffer_fits, lengths_fit, pointers_bad}
 use Rattle.tables.specs.laws.TablesFrame.{lengths_are}
+use Rattle.volume.specs.checks.RefusalNumbers.{number_of}
 use Rattle.volume.specs.declared.Answer.TheVariants.{Refused}
 use Rattle.volume.specs.declared.Condition.{Condition}
 use Rattle.volume.specs.declared.State.{State}
@@ -112,7 +113,7 @@ module _ (g : Geometry) (named : List Bool) (s : State) (a : WriteAsked) (xs ws 
       last_rows_lem false false = refl
 
       -- 18 and 19 at the pointer, where the run begins there
-      host_is : run.allowance.known ≡ true → RunFits g c run.pointer run.count → host_number g (view_state s) a.host (zone_asked g a) (end_asked g (view_state s) a) ≡ run.allowance.refusal
+      host_is : run.allowance.known ≡ true → RunFits g c run.pointer run.count → host_number g (view_state s) a.host (zone_asked g a) (end_asked g (view_state s) a) ≡ number_of run.allowance.limits
       host_is k f =
           ap (λ (n : ℕ). host_number g (view_state s) a.host (zone_asked g a) (n + a.count)) (sym f.pointer)
           ∙ sym (allowance_refusal g (view_state s) a.host (zone_asked g a) (offset_of g a.address + a.count) (sym (allowance_known g (view_state s) a.host (zone_asked g a) (offset_of g a.address + a.count)) ∙ k) f.inside)

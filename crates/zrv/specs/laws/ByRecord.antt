@@ -1,5 +1,5 @@
 -- A write and a read by the record of one zone (src/records.rt): what they take of the input's bytes, and what they make of it.
-use Rattle.std.specs.Prelude.{◌≡◌, false, ◌&&◌, ◌||◌, not, ℕ, ◌+◌, ◌-◌, ◌*◌, ◌%◌, ◌≤◌, ◌<◌, eqb}
+use Rattle.std.specs.Prelude.{◌≡◌, false, ◌&&◌, ◌||◌, not, ℕ, ◌+◌, ◌-◌, ◌*◌, ◌%◌, ◌≤◌, ◌<◌, eqb, Option, Some, None, Ok}
 use Rattle.std.proofs.Math.Path.{refl, sym, ap, ap₂}
 use Rattle.std.proofs.Common.{◌∙◌, true≢false, arith, lt-ltb, le-leb, eqb-true}
 use Rattle.std.proofs.Math.Bool.{Bool, true}
@@ -39,10 +39,9 @@ use Rattle.volume.specs.laws.StateHeld.{Sixteen, records_past, owned_record, sha
 use Rattle.volume.specs.checks.ByRecord.{RecordFits, SaysOf}
 use Rattle.volume.specs.checks.ZoneChecks.{pointer_within}
 use Rattle.volume.specs.reading.ReadByRecord.{ReadBy}
-use Rattle.volume.specs.writing.Allowances.{adds_at, host_number, host_none, allowance_of}
+use Rattle.volume.specs.writing.Allowances.{adds_at, host_limits, host_none, allowance_of}
 use Rattle.volume.specs.meaning.Calls.{open_state}
 use Rattle.zrv.specs.declared.records.WriteCall.{WriteCall}
-use Rattle.zrv.specs.declared.records.WriteTried.{WriteTried}
 use Rattle.zrv.specs.meaning.Bytes.{state_bytes, shares_of, table_from, table_to, record_from, record_to, state_to, state_from, state_well_formed}
 use Rattle.zrv.specs.meaning.EdgeCalls.{sizes_fit, state_bad, input_number, Ranges, ranges, tables_in, state_in, Answered, answered, state_after, stored_all, write_of, read_answer}
 use Rattle.zrv.specs.laws.Bytes.{bytes_state_bytes}
@@ -137,13 +136,13 @@ module _ (g : Geometry) (st : List ℕ) (h z end : ℕ) (ok : Valid g) (hz : z <
   unfolding state_from
   share_read = fill_at (λ i. read_le 4 st (264 + i * 4)) 0 0 (shares_of g) (16 - shares_of g) place place_in
 
-  pub allowed_alone : adds_at (zone_sectors g) h end (record_at (state_from g st) z) ≡ false → record { known = true; refusal = 0; share = read_le 4 st (264 + place * 4) } ≡ allowance_of g (view_state (state_from g st)) h z end
+  pub allowed_alone : adds_at (zone_sectors g) h end (record_at (state_from g st) z) ≡ false → record { known = true; limits = Ok tt; share = read_le 4 st (264 + place * 4) } ≡ allowance_of g (view_state (state_from g st)) h z end
   unfolding allowance_of
   allowed_alone e =
       let v = view_state (state_from g st) in
       let asked : ltb h hosts && leb end (zone_sectors g) ≡ true = and_join (ltb h hosts) (leb end (zone_sectors g)) (lt-ltb h hosts hh) (le-leb end (zone_sectors g) inside) in
-      (λ i. record { known = sym (lt-ltb h hosts hh) i; refusal = host_none g v h z end e i; share = sym share_read i })
-      ∙ ap (λ (b : Bool). pick b (record { known = ltb h hosts; refusal = host_number g v h z end; share = share_left g v h z end }) (record { known = ltb h hosts; refusal = 0; share = 0 })) (sym asked)
+      (λ i. record { known = sym (lt-ltb h hosts hh) i; limits = host_none g v h z end e i; share = sym share_read i })
+      ∙ ap (λ (b : Bool). pick b (record { known = ltb h hosts; limits = host_limits g v h z end; share = share_left g v h z end }) (record { known = ltb h hosts; limits = Ok tt; share = 0 })) (sym asked)
 
 -- ---- a write that is made
 -- the state's bytes with what it leaves: the lost drive, the zone's record, what is left of its host's share
@@ -162,9 +161,10 @@ asked_in k buffer = write_of k.host k.address k.run buffer
 abbrev pub whole_write : WriteCall → List ℕ → Ranges → Answered Ranges
 whole_write k buffer m = stored_all k.geometry (write_on k.geometry k.named (state_in k.geometry m) (asked_in k buffer) k.count (tables_in k.geometry m)) m
 
-pub record WrittenAs (k : WriteCall) (buffer : List ℕ) (m : Ranges) (r : WriteTried) (m' : Ranges) : Type 0 where
-  pub kept : r.made ≡ false → m' ≡ m
-  pub done : r.made ≡ true → answered r.code m' ≡ whole_write k buffer m
+-- not made, it has changed nothing
+abbrev pub WrittenAs : WriteCall → List ℕ → Ranges → Option ℕ → Ranges → Type 0
+WrittenAs k buffer m None m' = m' ≡ m
+WrittenAs k buffer m (Some code) m' = answered code m' ≡ whole_write k buffer m
 
 module _ (k : WriteCall) (buffer : List ℕ) (m : Ranges) (q : InputTaken k.geometry m.state (length m.written) (length m.durable)) (bytes : Bytes m.durable) where
   abbrev g : Geometry

@@ -5,10 +5,7 @@ use Rattle.volume.specs.laws.CallContracts.{appends_nil}
 use borrow.Author.Tests.{not-true, not-false}
 use native.Mathlib.Omega.{arith}
 use Prim.Native.Nat.{◌≤◌, ◌<◌}
-use mathlib.Core.Logic.{⊎_elim}
-use mathlib.Core.Path.{sym, ap, ◌∙◌}
-use denote.Enum.Declared.{tag_of}
-use Rattle.logs.specs.contracts.WalkEnd as WalkEnd
+use mathlib.Core.Path.{sym, ◌∙◌}
 use Rattle.volume.specs.meaning.Rules.{Shown}
 use borrow.Author.Rules.{rules}
 use Rattle.mounting.proofs.torn.complete_log.Statement.{statement}

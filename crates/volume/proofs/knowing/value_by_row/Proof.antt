@@ -1,5 +1,5 @@
 use mathlib.Core.Path.{ap₂, ◌∙◌}
-use Prim.Native.Nat.{ℕ, ◌+◌}
+use Prim.Native.Nat.{ℕ}
 use native.Mathlib.Omega.{arith}
 use Rattle.tables.specs.meaning.Tables.{sector_at}
 use Rattle.tables.specs.meaning.Xor.{xor_bytes}

@@ -1,6 +1,5 @@
 use mathlib.Core.Path.{◌≡◌, refl, sym, ◌∙◌}
 use mathlib.Core.Bool.{true, false}
-use Rattle.logs.specs.meaning.Entry.{kind_of_log}
 use Rattle.volume.specs.checks.LogRoom.{kind_lacks_at, log_in_lem}
 use borrow.Author.Rules.{rules}
 use Rattle.volume.proofs.log_room.unused.Statement.{statement}

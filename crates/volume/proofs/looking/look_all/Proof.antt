@@ -1,5 +1,4 @@
 use mathlib.Core.Path.{refl}
-use Prim.Native.Nat.{◌-◌}
 use Rattle.volume.specs.meaning.Rules.{showing}
 use borrow.Author.Rules.{rules}
 use Rattle.volume.proofs.looking.look_all.Statement.{statement}

@@ -9,7 +9,7 @@ use Rattle.volume.specs.declared.Outcome.{Outcome}
 use Rattle.volume.specs.declared.State.{State}
 use Rattle.volume.specs.meaning.Calls.{reset_state}
 use Rattle.volume.specs.meaning.CallContracts.{view_state, state_held}
-use Rattle.volume.specs.laws.StateHeld.{Sixteen, mapped_long, held_reset}
+use Rattle.volume.specs.laws.StateHeld.{Sixteen, held_reset}
 use borrow.Author.Rules.{rules}
 use Rattle.volume.proofs.resetting.outcome.Statement.{statement}
 use Rattle.volume.proofs.resetting.outcome.Tie as tie

@@ -30,29 +30,29 @@ front_of s = length-take-le (length s.args.written.now) (replicate 152 0) (few s
 abbrev past : tie.Start → List ℕ
 past s = drop (length s.args.written.now) (replicate 152 0)
 
-abbrev to_start : tie.After-copy_pointers → tie.Start
+abbrev to_start : tie.After-copy_in → tie.Start
 to_start c = c.before.before.before.before.before
 
-copied : (c : tie.After-copy_pointers) → c.copy_pointers.new.dst ≡ (to_start c).args.written.now
+copied : (c : tie.After-copy_in) → c.copy_in.new.dst ≡ (to_start c).args.written.now
 copied c =
     let ws = (to_start c).args.written.now in
-    c.copy_pointers.ensures ∙ overlay_all (take (length ws) (replicate 152 0)) ws (sym (front_of (to_start c)))
+    c.copy_in.ensures ∙ overlay_all (take (length ws) (replicate 152 0)) ws (sym (front_of (to_start c)))
 
-copy-long : (c : tie.After-copy_pointers) → length c.copy_pointers.new.dst ≡ length (to_start c).args.written.now
+copy-long : (c : tie.After-copy_in) → length c.copy_in.new.dst ≡ length (to_start c).args.written.now
 copy-long c = ap (λ (l : List ℕ). length l) (copied c)
 
 -- the copy, as it is handed on
-handed : (c : tie.After-copy_pointers) → take (length (to_start c).args.written.now) (c.copy_pointers.new.dst ++ past (to_start c)) ≡ (to_start c).args.written.now
-handed c = front_is (length (to_start c).args.written.now) c.copy_pointers.new.dst (past (to_start c)) (to_start c).args.written.now (copy-long c) (copied c)
+handed : (c : tie.After-copy_in) → take (length (to_start c).args.written.now) (c.copy_in.new.dst ++ past (to_start c)) ≡ (to_start c).args.written.now
+handed c = front_is (length (to_start c).args.written.now) c.copy_in.new.dst (past (to_start c)) (to_start c).args.written.now (copy-long c) (copied c)
 
-copy-pointers-requires : tie.Need-copy_pointers-requires
-copy-pointers-requires c κs = omega (arith, front_of c.before.before.before.before)
+copy-in-requires : tie.Need-copy_in-requires
+copy-in-requires c κs = let f = front_of c.before.before.before.before in search rules
 
 array-share-prefix-pointers : tie.Need-slice_bounds-pointers-end-2
-array-share-prefix-pointers c = let f = c.before.before.before in front_fits (length (to_start f).args.written.now) f.copy_pointers.new.dst (past (to_start f)) (copy-long f)
+array-share-prefix-pointers c = let f = c.before.before.before in front_fits (length (to_start f).args.written.now) f.copy_in.new.dst (past (to_start f)) (copy-long f)
 
 slice-aggregate-write-all : tie.Need-slice_bounds-write_all-end
-slice-aggregate-write-all c = let f = c.before.before.before.before in front_long (length (to_start f).args.written.now) f.copy_pointers.new.dst (past (to_start f)) (copy-long f)
+slice-aggregate-write-all c = let f = c.before.before.before.before in front_long (length (to_start f).args.written.now) f.copy_in.new.dst (past (to_start f)) (copy-long f)
 
 write-all-requires : tie.Need-write_all-requires
 write-all-requires c κs =
@@ -78,4 +78,4 @@ returns c =
 pub write_directly_spec : {M : Type 1} → statement M
 write_directly_spec =
     tie.close
-    (tie.spec (λ c. few c.before.before.before) (λ c. sym (front_of c.before.before.before.before)) copy-pointers-requires array-share-prefix-pointers slice-aggregate-write-all write-all-requires (λ c. search rules) (λ c. search rules) returns)
+    (tie.spec (λ c. few c.before.before.before) (λ c. sym (front_of c.before.before.before.before)) copy-in-requires array-share-prefix-pointers slice-aggregate-write-all write-all-requires (λ c. search rules) (λ c. search rules) returns)

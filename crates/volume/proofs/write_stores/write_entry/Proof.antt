@@ -3,7 +3,6 @@ use mathlib.Core.Path.{◌≡◌, refl, sym, ap, ◌∙◌, subst}
 use mathlib.Core.List.{List}
 use native.Mathlib.Nat.{div-add-mod'}
 use native.Mathlib.Omega.{arith}
-use Rattle.tables.specs.declared.Geometry.{Geometry}
 use Rattle.tables.specs.meaning.Device.{Device, append}
 use Rattle.tables.specs.meaning.Geometry.{stripe_sectors, zone_sectors}
 use Rattle.tables.specs.meaning.Placement.{stripe_of, parity_drive}

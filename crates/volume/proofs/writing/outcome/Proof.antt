@@ -17,7 +17,7 @@ use Rattle.volume.specs.meaning.Content.{parity_drive_at}
 use Rattle.volume.specs.meaning.Calls.{open_state}
 use Rattle.volume.specs.meaning.Hosts.{owned_state}
 use Rattle.volume.specs.meaning.CallContracts.{record_at, view_state, is_set, state_held}
-use Rattle.volume.specs.laws.StateHeld.{Sixteen, mapped_long, shares_less, held_owned}
+use Rattle.volume.specs.laws.StateHeld.{Sixteen, shares_less, held_owned}
 use Rattle.volume.specs.writing.WriteRun.{end_of, handed_on}
 use Rattle.volume.proofs.writing.outcome.Statement.{statement}
 use Rattle.volume.proofs.writing.outcome.Tie as tie

@@ -1,4 +1,3 @@
-use Prim.Native.Nat.{◌-◌}
 use Rattle.volume.specs.looking.ZoneLooking.{condition_worn, condition_empty, condition_sealed, condition_open}
 use Rattle.volume.proofs.zone_looking.condition_of.Statement.{statement}
 use Rattle.volume.proofs.zone_looking.condition_of.Tie as tie

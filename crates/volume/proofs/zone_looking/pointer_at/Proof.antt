@@ -1,5 +1,4 @@
 use mathlib.Core.Path.{refl, sym, ◌∙◌}
-use Prim.Native.Nat.{◌-◌}
 use native.Mathlib.Omega.{arith}
 use Rattle.volume.specs.meaning.CallContracts.{is_set}
 use Rattle.volume.specs.looking.ZoneLooking.{pointer_reset, pointer_known}

@@ -1,0 +1,40 @@
+use Rattle.std.proofs.Common.{◌≡◌, ℕ, List, add-one, arith}
+use Rattle.tables.specs.meaning.Below.{each_below}
+use Rattle.tables.specs.meaning.Device.{Store}
+use Rattle.tables.specs.meaning.Phases.{on_present}
+use Rattle.volume.specs.meaning.CallContracts.{is_set}
+use Rattle.volume.specs.looking.Knowing.{read_device}
+use Rattle.volume.specs.rows.KeptBelow.{on_present_in}
+use Rattle.volume.specs.meaning.Rules.{parity_entries}
+use Rattle.mounting.specs.MountValues.{shown_at}
+use Rattle.mounting.specs.MountTables.{appends_more}
+use Rattle.mounting.specs.MountLastEntries.{StillEntering, on_parity, zone_entry_stores, entered, drive_entries_in}
+use Rattle.mounting.proofs.entries.log_drive.Goals as goal
+use Rattle.mounting.proofs.entries.log_drive.Goals.{At-loop-z}
+
+-- the stores of each zone
+abbrev row : At-loop-z → ℕ → List Store
+row c = let a = c.args in zone_entry_stores a.basis.geometry a.basis.look (shown_at a.basis.geometry a.basis.here a.basis.look a.sectors.now a.pointers.now) (parity_entries a.to (read_device a.to a.sectors.now a.starts.now) a.drive) a.drive
+
+-- what those so far have left alone
+kept : (c : At-loop-z) → let a = c.args in StillEntering a.basis.geometry a.to a.basis.here a.basis.look a.pointers.now a.starts.now a.sectors.now c.loop-z.sectors c.loop-z.written
+kept c =
+    let a = c.args in
+    let l = c.loop-z in
+    let e = c.requires.drive_lt_drives.1 in
+    let within = drive_entries_in a.basis.geometry a.basis.here a.basis.look a.pointers.now a.sectors.now c.requires.valid e.appends.known_below (parity_entries a.to (read_device a.to a.sectors.now a.starts.now) a.drive) a.drive l.z c.requires.drive_lt_drives.0 (omega arith) in
+    entered a.basis.geometry a.to a.basis.here a.basis.look a.budget l.rest (on_present (is_set a.basis.here) (each_below (row c) l.z)) a.pointers.now a.starts.now a.sectors.now a.written.now l.sectors l.written e (on_present_in a.basis.geometry on_parity (is_set a.basis.here) (each_below (row c) l.z) within) l.invariant
+
+pub log_entry-rest-requires-clause-drive_lt_drives : goal.log_entry-rest-requires-clause-drive_lt_drives
+log_entry-rest-requires-clause-drive_lt_drives c = let k = kept (goal.at.log_entry-rest-requires-clause-drive_lt_drives c).At-loop-z in (c.requires.drive_lt_drives.0, omega arith, k.0)
+
+pub loop-z-preserved : goal.loop-z-preserved
+loop-z-preserved c =
+    let p = (goal.at.loop-z-preserved c).At-loop-z in
+    let a = c.args in
+    let l = c.loop-z in
+    let f = c.log_entry-rest in
+    rw add-one (appends_more a.to (is_set a.basis.here) a.budget l.rest f.result (row p) l.z a.sectors.now a.written.now l.sectors l.written f.new.sectors f.new.written l.invariant (rw ((kept p).1, (kept p).2) at f.ensures))
+
+pub returns : goal.returns
+returns c = let e : c.loop-z.z ≡ c.args.basis.geometry.zones = omega arith in rw e at c.loop-z.invariant

@@ -1,0 +1,6 @@
+use Rattle.std.proofs.Common.{rules, tests}
+use Rattle.volume.proofs.Ranges.{any_below-from_range}
+use Rattle.volume.proofs.looking.kind_lacks.Goals as goal
+
+pub returns : goal.returns
+returns c = any_below-from_range _ _ _ _ _ c.any.ensures.ran (λ x b q k. grind (rules, tests))

@@ -1,0 +1,10 @@
+use Rattle.tables.specs.meaning.Below.{each_below}
+use Rattle.tables.specs.meaning.Phases.{on_present}
+use Rattle.tables.specs.laws.Made.{MadeAppends}
+use Rattle.volume.specs.meaning.CallContracts.{is_set}
+use Rattle.volume.specs.storing.Resetting.{reset_entry}
+use Rattle.volume.proofs.resetting.log_resets.Given as goal
+
+-- the stores of the drives so far are made
+abbrev pub invariant-loop-d : goal.invariant-loop-d
+invariant-loop-d l = MadeAppends l.g l.budget l.rest (on_present (is_set l.here) (each_below (reset_entry l.g l.z l.generation) l.d)) l.fn.sectors l.fn.written l.sectors l.written

@@ -1,0 +1,35 @@
+use mathlib.Core.Path.{◌≡◌, refl, sym, ap, ◌∙◌}
+use native.Mathlib.Omega.{arith}
+use lib.ListN.{length}
+use Rattle.volume.specs.declared.Outcome.{Outcome}
+use Rattle.zrv.specs.meaning.EdgeCalls.{ranges}
+use Rattle.zrv.specs.laws.EdgeCalls.{Sized, sizes_passed, part_long, scratch_fits, refused, made, shown, placed}
+use borrow.Author.Rules.{rules}
+use Rattle.volume.specs.checks.RefusalNumbers.{refusal_number, refusal_not_none}
+use Rattle.zrv.proofs.starting.zrv_look.Goals as goal
+
+pub returns-in-Err : goal.returns-in-Err
+returns-in-Err c =
+    let e = c.in-Err.ensures in
+    rw (← c.shape-g.ensures, ← e, ← c.number.ensures) (refused _ _ _ (λ k. refusal_not_none _ (sym c.number.ensures ∙ k)))
+
+pub table_cells-n-requires : goal.table_cells-n-requires
+table_cells-n-requires c = (sizes_passed _ _ _ _ (sym c.in_default.ensures)).valid
+
+pub tables_from-requires : goal.tables_from-requires
+tables_from-requires c = scratch_fits _ _ (sizes_passed _ _ _ _ (sym c.in_default.ensures)) c.table_cells-n.ensures
+
+pub hand_back_placed-requires-clause-valid : goal.hand_back_placed-requires-clause-valid
+hand_back_placed-requires-clause-valid c = (sizes_passed _ _ _ _ (sym c.in_default.ensures)).valid
+
+pub hand_back_placed-requires-clause-bytes_len : goal.hand_back_placed-requires-clause-bytes_len
+hand_back_placed-requires-clause-bytes_len c = (sizes_passed _ _ _ _ (sym c.in_default.ensures)).state_long
+
+pub returns : goal.returns
+returns c =
+    let a = c.args in
+    let m = ranges a.sectors.now a.written.now a.durable.now a.state.now in
+    let r = rw (c.named_drives-here.ensures, c.unread_state-old.ensures, c.tables_from.ensures.0, c.tables_from.ensures.1) at c.look-outcome.ensures in
+    let none = c.in_default.ensures in
+    let h = c.hand_back_placed.ensures in
+    rw (← c.shape-g.ensures) (placed (ap (λ (o : Outcome). o.answer) r) (shown _ m r (refl, h.1)) h.0 ∙ made _ _ _ (sym none))

@@ -28,6 +28,7 @@ use Rattle.volume.specs.checks.LogRoom.{drive_room_of, room_of, parity_room_at, 
 use Rattle.volume.specs.checks.Records.{points_in, points_in_at}
 use Rattle.volume.specs.emptying.ParityCopies.{by_pointers}
 use Rattle.compacting.specs.declared.Compaction.{Compaction}
+use Rattle.volume.specs.looking.MovedLogs.{is_emptied, new_generation}
 
 -- ---- one drive alone
 abbrev pub only_drive : ℕ → List Bool
@@ -127,8 +128,8 @@ module _ (j : Compaction) (p : LogPlaces) (s : State) (xs ws ps ds : List ℕ) (
   unfolding compact_full
   room_full = rooms_full (parity_room_at (compact_asked j p) (points_in s) xs ws ps) g.drives emptied stays (λ d. (r d).parity_claim) drive_room ∙ any_only stays g.drives j.drive hd
 
-  pub room_emptied : (d : ℕ) → d < g.drives → is_set (compact_room j p s xs ws ps).emptied d ≡ emptied d
+  pub room_emptied : (d : ℕ) → d < g.drives → is_emptied (compact_room j p s xs ws ps).emptied d ≡ emptied d
   room_emptied = rooms_emptied (parity_room_at (compact_asked j p) (points_in s) xs ws ps) g.drives emptied stays (λ d. (r d).parity_claim) drive_room
 
-  pub room_generation : (compact_room j p s xs ws ps).full ≡ false → (d : ℕ) → d < g.drives → emptied d ≡ true → get_or (compact_room j p s xs ws ps).generations d 0 ≡ (r d).parity_claim
+  pub room_generation : (compact_room j p s xs ws ps).full ≡ false → (d : ℕ) → d < g.drives → emptied d ≡ true → new_generation (compact_room j p s xs ws ps).emptied d ≡ (r d).parity_claim
   room_generation = rooms_generation (parity_room_at (compact_asked j p) (points_in s) xs ws ps) g.drives emptied stays (λ d. (r d).parity_claim) drive_room

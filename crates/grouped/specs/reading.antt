@@ -2,3 +2,4 @@ pub mod Blocks
 pub mod Later
 pub mod Call
 pub mod SameCall
+pub mod RefusalNumbers

@@ -4,6 +4,9 @@
 // address (13). A missing drive's memory is never read: what it held is the exclusive or of its stripe's other blocks.
 #![tactic(auto)]
 
+ghost use Rattle.std.specs.Prelude.{◌≡◌};
+ghost use Rattle.grouped.specs.reading.RefusalNumbers.{refusal_number};
+
 pub mod checks;
 pub mod heap;
 pub mod keys;
@@ -17,6 +20,33 @@ pub struct Segment {
     pub block: usize,
     pub group: usize,
     pub blocks: usize,
+}
+
+// Why a read is refused.
+#[derive(Clone, Copy, Debug, PartialEq, Eq)]
+pub enum Refusal {
+    Segment,
+    Length,
+    TwoMissing,
+    Unwritten,
+    StripeLacks,
+    Alike,
+}
+
+impl Refusal {
+    // The documents' number.
+    pub fn number(self) -> u32
+        ensures { result ≡ refusal_number self }
+    {
+        match self {
+            Refusal::Segment => 1,
+            Refusal::Length => 2,
+            Refusal::TwoMissing => 4,
+            Refusal::Unwritten => 13,
+            Refusal::StripeLacks => 23,
+            Refusal::Alike => 24,
+        }
+    }
 }
 
 // What a block's metadata say of it, but for its stripe.

@@ -4,9 +4,10 @@ ghost use Rattle.grouped.specs.meaning.Segment.{total_blocks};
 ghost use Rattle.grouped.specs.meaning.Reading.{later_of, newest, numbers_refused, metadata_number, request, grouped_number, grouped_left};
 ghost use Rattle.grouped.specs.laws.Segment.{Valid, Sized};
 ghost use Rattle.grouped.specs.places.Placed.{Placed, Found};
+ghost use Rattle.grouped.specs.reading.RefusalNumbers.{number_of};
 ghost use Rattle.grouped.specs.reading.Blocks.{add_block, rebuilt_block, block_noted_at, MetadataRead};
 
-use super::Segment;
+use super::{Refusal, Segment};
 
 // Of what was found so far and the block of drive c / N in stripe c % N the later one with the address, as one more than its number; 0 if neither has it.
 fn later(
@@ -112,21 +113,27 @@ fn read_block(blocks: &[u8], work: &[u8], s: Segment, missing: usize, c: usize, 
     tables::sectors::copy_in(answer, 0, &blocks[from..end]);
 }
 
-// What the metadata refuse, 23 or 24; 0 if nothing.
-fn metadata_refusal(metadata: &[u8], work: &mut [u8], s: Segment, missing: usize) -> u32
+// What the metadata refuse, 23 or 24.
+fn metadata_refusal(
+    metadata: &[u8],
+    work: &mut [u8],
+    s: Segment,
+    missing: usize,
+) -> Result<(), Refusal>
     requires sized { Sized s metadata.now work.old }
     requires missing_bound { missing ≤ 255 }
-    ensures { MetadataRead s metadata.now missing work.new result }
+    ensures { MetadataRead s metadata.now missing work.new (number_of result) }
 {
-    let lacks = super::places::place_all(metadata, work, s, missing);
-    if lacks {
-        return 23;
+    if super::places::place_all(metadata, work, s, missing) {
+        return Err(Refusal::StripeLacks);
     }
-    let alike = super::heap::some_alike(metadata, work, s, missing);
-    if alike { 24 } else { 0 }
+    if super::heap::some_alike(metadata, work, s, missing) {
+        return Err(Refusal::Alike);
+    }
+    Ok(())
 }
 
-// What the numbers, the lengths and the drives named refuse, 1, 2 or 4; 0 if nothing.
+// What the numbers, the lengths and the drives named refuse, 1, 2 or 4.
 fn input_refusal(
     s: Segment,
     named: [bool; 8],
@@ -134,22 +141,22 @@ fn input_refusal(
     metadata: usize,
     work: usize,
     answer: usize,
-) -> u32
-    ensures { result ≡ numbers_refused s named blocks metadata work answer }
+) -> Result<(), Refusal>
+    ensures { number_of result ≡ numbers_refused s named blocks metadata work answer }
 {
-    let ok = super::checks::valid(s);
-    if !ok {
-        return 1;
+    if !super::checks::valid(s) {
+        return Err(Refusal::Segment);
     }
-    let fit = super::checks::lengths_fit(s, blocks, metadata, work, answer);
-    if !fit {
-        return 2;
+    if !super::checks::lengths_fit(s, blocks, metadata, work, answer) {
+        return Err(Refusal::Length);
     }
-    let two = super::checks::two_missing(s, named);
-    if two { 4 } else { 0 }
+    if super::checks::two_missing(s, named) {
+        return Err(Refusal::TwoMissing);
+    }
+    Ok(())
 }
 
-// Reads the block of an address into the answer buffer. It returns 0, or the number of what is refused; then the answer buffer is as it was. What the work
+// Reads the block of an address into the answer buffer. Refused, the answer buffer is as it was. What the work
 // table holds afterwards is left open.
 pub fn read_grouped(
     blocks: &[u8],
@@ -159,30 +166,24 @@ pub fn read_grouped(
     named: [bool; 8],
     address: u64,
     answer: &mut [u8],
-) -> u32
-    ensures { (result ≡ grouped_number (request s named blocks.now metadata.now (length work.old) address) answer.old)
+) -> Result<(), Refusal>
+    ensures { (number_of result ≡ grouped_number (request s named blocks.now metadata.now (length work.old) address) answer.old)
         × (answer.new ≡ grouped_left (request s named blocks.now metadata.now (length work.old) address) answer.old) }
 {
-    let refusal = input_refusal(
+    input_refusal(
         s,
         named,
         blocks.len(),
         metadata.len(),
         work.len(),
         answer.len(),
-    );
-    if refusal != 0 {
-        return refusal;
-    }
+    )?;
     let missing = super::checks::missing_drive(s, named);
-    let told = metadata_refusal(metadata, work, s, missing);
-    if told != 0 {
-        return told;
-    }
+    metadata_refusal(metadata, work, s, missing)?;
     let found = newest(metadata, work, s, missing, address);
     if found == 0 {
-        return 13;
+        return Err(Refusal::Unwritten);
     }
     read_block(blocks, work, s, missing, found - 1, answer);
-    0
+    Ok(())
 }

@@ -12,7 +12,7 @@ use std::io;
 pub mod memory;
 
 // Bytes of the blocks, the metadata, the work table and the answer.
-#[derive(Clone, Copy)]
+#[derive(Clone, Copy, Default)]
 struct Sizes {
     blocks: usize,
     metadata: usize,
@@ -50,41 +50,21 @@ fn block_space() -> [u8; 90112]
     [0; 90112]
 }
 
-// Bytes of the answer line.
-fn text(rt: &impl Print, s: &[u8]) -> io::Result<()> {
-    rt.write_all(s)
-}
-
-// A space and a number.
-fn field(rt: &impl Print, n: u64) -> io::Result<()> {
-    text(rt, b" ")?;
-    rt.print(n)
-}
-
 // The answer line.
 fn show(rt: &impl Print, letter: u8, r: Reply) -> io::Result<()> {
-    let first = [letter];
-    text(rt, &first)?;
-    field(rt, r.code as u64)?;
-    field(rt, r.sum)?;
-    text(rt, b"\n")
+    // as a byte, since it need not be a character
+    rt.write_all(&[letter])?;
+    println!(rt; " {} {}", r.code, r.sum)
 }
 
-// Fills the answer with the byte that says that nothing was read.
-fn prefill(answer: &mut [u8]) {
-    for byte in answer.iter_mut() {
-        *byte = 238;
-    }
-}
+// The byte that fills the answer where nothing was read.
+const UNREAD: u8 = 238;
 
 // The blocks of all drives.
 fn cells(s: Segment) -> usize
     ensures { result ≤ 1048576 }
 {
-    let n = memory::bounded(s.blocks, 65536);
-    let d = memory::bounded(s.drives, 8);
-    let all = memory::product(n, d);
-    memory::bounded(all, memory::NONE)
+    memory::product(s.blocks.min(65536), s.drives.min(8)).min(memory::NONE)
 }
 
 // How much of the memory a read is handed.
@@ -95,18 +75,11 @@ fn sizes_for(h: Host, most: Sizes) -> Sizes
     let short = h.shortage;
     let n = cells(s);
     let b = memory::width_of(s);
-    let nb = memory::product(n, b);
-    let nm = memory::product(n, 20);
-    let nw = memory::product(n, 8);
-    let blocks = replaying::hosting::lend(nb, short.blocks, most.blocks);
-    let metadata = replaying::hosting::lend(nm, short.metadata, most.metadata);
-    let work = replaying::hosting::lend(nw, short.work, most.work);
-    let answer = replaying::hosting::lend(b, short.answer, most.answer);
     Sizes {
-        blocks,
-        metadata,
-        work,
-        answer,
+        blocks: replaying::hosting::lend(memory::product(n, b), short.blocks, most.blocks),
+        metadata: replaying::hosting::lend(memory::product(n, 20), short.metadata, most.metadata),
+        work: replaying::hosting::lend(memory::product(n, 8), short.work, most.work),
+        answer: replaying::hosting::lend(b, short.answer, most.answer),
     }
 }
 
@@ -122,20 +95,18 @@ fn read_prefixes(
 ) -> u32
     requires { (t.blocks ≤ length blocks.now) × (t.metadata ≤ length metadata.now) × (t.work ≤ length work.old) }
 {
-    let nb = t.blocks;
-    let nm = t.metadata;
-    let nw = t.work;
-    let address = c.second;
-    let named = replaying::hosting::named_in(c.first);
-    grouped::reading::read_grouped(
-        &blocks[..nb],
-        &metadata[..nm],
-        &mut work[..nw],
+    match grouped::reading::read_grouped(
+        &blocks[..t.blocks],
+        &metadata[..t.metadata],
+        &mut work[..t.work],
         s,
-        named,
-        address,
+        replaying::hosting::named_in(c.first),
+        c.second,
         answer,
-    )
+    ) {
+        Ok(()) => 0,
+        Err(refusal) => refusal.number(),
+    }
 }
 
 // A read.
@@ -154,11 +125,10 @@ fn read(
         answer: answer.len(),
     };
     let t = sizes_for(h, most);
-    let n = t.answer;
-    let s = h.handed;
-    prefill(answer);
-    let code = read_prefixes(blocks, metadata, work, &mut answer[..n], t, s, c);
-    let sum = replaying::checksum::adler_of(&answer[..n]);
+    answer.fill(UNREAD);
+    let lent = &mut answer[..t.answer];
+    let code = read_prefixes(blocks, metadata, work, lent, t, h.handed, c);
+    let sum = replaying::checksum::adler_of(lent);
     Reply { code, sum }
 }
 
@@ -166,9 +136,7 @@ fn read(
 fn cell_in(s: Segment, c: Command) -> usize
     ensures { result ≤ 1048576 }
 {
-    let d = memory::size(c.first);
-    let i = memory::size(c.second);
-    memory::cell(s, d, i)
+    memory::cell(s, memory::size(c.first), memory::size(c.second))
 }
 
 // Sets a block's metadata; the checksum.
@@ -196,14 +164,11 @@ fn put_parity(blocks: &mut [u8], metadata: &mut [u8], s: Segment, c: Command) ->
 
 // What sets a block: its metadata, its bytes, or a stripe's parity block. It returns the checksum.
 fn set(blocks: &mut [u8], metadata: &mut [u8], s: Segment, c: Command) -> u64 {
-    let letter = c.letter;
-    if letter == b'y' {
-        return put_parity(blocks, metadata, s, c);
+    match c.letter {
+        b'y' => put_parity(blocks, metadata, s, c),
+        b'm' => put_record(blocks, metadata, s, c),
+        _ => put_block(blocks, metadata, s, c),
     }
-    if letter == b'm' {
-        return put_record(blocks, metadata, s, c);
-    }
-    put_block(blocks, metadata, s, c)
 }
 
 // The numbers of a segment in a command.
@@ -213,16 +178,6 @@ fn segment_in(c: Command) -> Segment {
         block: memory::size(c.second),
         group: memory::size(c.third),
         blocks: memory::size(c.fourth),
-    }
-}
-
-// No shortage.
-fn no_shortage() -> Sizes {
-    Sizes {
-        blocks: 0,
-        metadata: 0,
-        work: 0,
-        answer: 0,
     }
 }
 
@@ -238,18 +193,16 @@ fn shortage_in(c: Command) -> Sizes {
 
 // The host after a command: a shortage is of one command alone.
 fn next_host(h: Host, c: Command) -> Host {
-    let letter = c.letter;
     let mut t = h;
-    t.shortage = no_shortage();
-    if letter == b'g' {
-        t.made = segment_in(c);
-        t.handed = segment_in(c);
-    }
-    if letter == b'h' {
-        t.handed = segment_in(c);
-    }
-    if letter == b'n' {
-        t.shortage = shortage_in(c);
+    t.shortage = Sizes::default();
+    match c.letter {
+        b'g' => {
+            t.made = segment_in(c);
+            t.handed = segment_in(c);
+        }
+        b'h' => t.handed = segment_in(c),
+        b'n' => t.shortage = shortage_in(c),
+        _ => {}
     }
     t
 }
@@ -263,20 +216,19 @@ fn perform(
     h: Host,
     c: Command,
 ) -> Reply {
-    let letter = c.letter;
-    if letter == b'r' {
-        return read(blocks, metadata, work, answer, h, c);
+    match c.letter {
+        b'r' => read(blocks, metadata, work, answer, h, c),
+        b'm' | b'q' | b'y' => Reply {
+            code: 0,
+            sum: set(blocks, metadata, h.made, c),
+        },
+        b'g' => {
+            blocks.fill(0);
+            metadata.fill(0);
+            Reply { code: 0, sum: 1 }
+        }
+        _ => Reply { code: 0, sum: 1 },
     }
-    if (letter == b'm') | (letter == b'q') | (letter == b'y') {
-        let sum = set(blocks, metadata, h.made, c);
-        return Reply { code: 0, sum };
-    }
-    if letter == b'g' {
-        tables::sectors::clear(blocks);
-        tables::sectors::clear(metadata);
-        return Reply { code: 0, sum: 1 };
-    }
-    Reply { code: 0, sum: 1 }
 }
 
 // One command: carried out and answered.
@@ -305,7 +257,7 @@ fn first_host() -> Host {
     Host {
         made: none,
         handed: none,
-        shortage: no_shortage(),
+        shortage: Sizes::default(),
     }
 }
 
@@ -318,13 +270,12 @@ fn replay(
     work: &mut [u8],
     answer: &mut [u8],
 ) -> io::Result<()> {
-    let n = script.len();
     let mut h = first_host();
-    let mut at = 0;
-    while at < n {
-        let c = replaying::parsing::command_at(script, at);
+    let mut rest = script;
+    // kept: where the next command begins is known only from this one, so there is no range to go over.
+    while let Some((c, after)) = replaying::parsing::command_at(rest) {
         h = step(rt, blocks, metadata, work, answer, h, c)?;
-        at = c.next;
+        rest = after;
     }
     Ok(())
 }

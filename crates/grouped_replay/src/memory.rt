@@ -25,18 +25,7 @@ pub const NONE: usize = 1048576;
 pub fn size(x: u64) -> usize
     ensures { result ≤ 4294967295 }
 {
-    let n = replaying::hosting::narrow(x);
-    tables::bounds::widen(n)
-}
-
-// No more than so many.
-pub fn bounded(n: usize, most: usize) -> usize
-    ensures { result ≤ most }
-{
-    if n <= most {
-        return n;
-    }
-    most
+    replaying::hosting::narrow(x) as usize
 }
 
 // The bytes of so many blocks or records.
@@ -51,18 +40,15 @@ pub fn product(count: usize, width: usize) -> usize
 pub fn width_of(s: Segment) -> usize
     ensures { result ≤ 4096 }
 {
-    bounded(s.block, 4096)
+    s.block.min(4096)
 }
 
 // Block i of drive d, counted over all drives.
 pub fn cell(s: Segment, d: usize, i: usize) -> usize
     ensures { result ≤ 1048576 }
 {
-    let n = bounded(s.blocks, 65536);
-    let e = bounded(d, 8);
-    let k = bounded(i, 65536);
-    let first = product(n, e);
-    bounded(first + k, NONE)
+    let first = product(s.blocks.min(65536), d.min(8));
+    (first + i.min(65536)).min(NONE)
 }
 
 // The part of a cell in bytes of which each cell has so many; an empty one if it does not lie in them.
@@ -84,26 +70,22 @@ pub fn add_part(sum: &mut [u8], bytes: &[u8], c: usize, width: usize)
 {
     let n = sum.len();
     let p = part(bytes.len(), c, width);
-    let from = p.from;
-    let to = p.to;
-    if to - from < n {
+    if p.to - p.from < n {
         return;
     }
-    let end = from + n;
-    tables::sectors::xor_into(sum, &bytes[from..end]);
+    tables::sectors::xor_into(sum, &bytes[p.from..p.from + n]);
 }
 
 // Lays bytes over the first of a cell's part.
 pub fn put_part(bytes: &mut [u8], c: usize, width: usize, src: &[u8])
     requires { (c ≤ 1048576) × (width ≤ 4096) }
 {
+    let n = src.len();
     let p = part(bytes.len(), c, width);
-    let from = p.from;
-    let to = p.to;
-    if to - from < src.len() {
+    if p.to - p.from < n {
         return;
     }
-    tables::sectors::copy_in(bytes, from, src);
+    bytes[p.from..p.from + n].copy_from_slice(src);
 }
 
 // Lays two lists of bytes one after the other.
@@ -111,8 +93,8 @@ pub fn join(both: &mut [u8], first: &[u8], second: &[u8])
     requires { length first.now + length second.now ≤ length both.old }
 {
     let n = first.len();
-    tables::sectors::copy_in(both, 0, first);
-    tables::sectors::copy_in(both, n, second);
+    both[..n].copy_from_slice(first);
+    both[n..n + second.len()].copy_from_slice(second);
 }
 
 // The checksum of two lists of bytes, one after the other.
@@ -131,12 +113,8 @@ pub fn block_sum(blocks: &[u8], metadata: &[u8], s: Segment, c: usize) -> u64
 {
     let b = width_of(s);
     let p = part(blocks.len(), c, b);
-    let from = p.from;
-    let to = p.to;
     let q = part(metadata.len(), c, 20);
-    let first = q.from;
-    let last = q.to;
-    joined_sum(&blocks[from..to], &metadata[first..last])
+    joined_sum(&blocks[p.from..p.to], &metadata[q.from..q.to])
 }
 
 // A block's metadata.
@@ -144,14 +122,12 @@ pub fn set_record(metadata: &mut [u8], c: usize, address: u64, timestamp: u64, i
     requires { c ≤ 1048576 }
 {
     let q = part(metadata.len(), c, 20);
-    let first = q.from;
-    let last = q.to;
-    if last - first < 20 {
+    if q.to - q.from < 20 {
         return;
     }
-    tables::bytes::write_u64(metadata, first, address);
-    tables::bytes::write_u64(metadata, first + 8, timestamp);
-    tables::bytes::write_u32(metadata, first + 16, id);
+    tables::bytes::write_u64(metadata, q.from, address);
+    tables::bytes::write_u64(metadata, q.from + 8, timestamp);
+    tables::bytes::write_u32(metadata, q.from + 16, id);
 }
 
 // A block's bytes: those of a seed's stream.
@@ -160,9 +136,7 @@ pub fn set_block(blocks: &mut [u8], s: Segment, c: usize, seed: u64)
 {
     let b = width_of(s);
     let p = part(blocks.len(), c, b);
-    let from = p.from;
-    let to = p.to;
-    replaying::stream::fill(&mut blocks[from..to], seed);
+    replaying::stream::fill(&mut blocks[p.from..p.to], seed);
 }
 
 // Whether a block's metadata have an ID.
@@ -170,27 +144,18 @@ pub fn has_id(metadata: &[u8], c: usize, id: u32) -> bool
     requires { c ≤ 1048576 }
 {
     let q = part(metadata.len(), c, 20);
-    let first = q.from;
-    let last = q.to;
-    if last - first < 20 {
-        return false;
-    }
-    let found = tables::bytes::read_u32(metadata, first + 16);
-    found == id
+    20 <= q.to - q.from && tables::bytes::read_u32(metadata, q.from + 16) == id
 }
 
 // The first block with an ID in a group of a drive.
 pub fn find(metadata: &[u8], s: Segment, d: usize, group: usize, id: u32) -> usize
     ensures { result ≤ 1048576 }
 {
-    let g = bounded(s.group, 256);
-    let n = bounded(group, 65536);
-    let at = product(n, g);
-    let first = cell(s, d, at);
+    let g = s.group.min(256);
+    let first = cell(s, d, product(group.min(65536), g));
     for i in 0..g {
-        let k = bounded(first + i, NONE);
-        let here = has_id(metadata, k, id);
-        if here {
+        let k = (first + i).min(NONE);
+        if has_id(metadata, k, id) {
             return k;
         }
     }
@@ -228,33 +193,20 @@ pub fn add_drives(
     block: &mut [u8],
     record: &mut [u8],
 ) -> bool {
-    let n = s.drives;
     let mut whole = true;
-    for d in 0..n {
-        let has = add_drive(blocks, metadata, s, t, d, block, record);
-        whole = whole & has;
+    for d in 0..s.drives {
+        whole &= add_drive(blocks, metadata, s, t, d, block, record);
     }
     whole
 }
 
 // The stripe with an ID in a group.
 pub fn stripe_of(s: Segment, group: usize, id: u32) -> Stripe {
-    let n = bounded(group, 65536);
-    let g = bounded(s.group, 256);
-    let first = product(n, g);
-    let k = first + tables::bounds::widen(id);
-    let drives = s.drives;
-    if drives == 0 {
-        return Stripe {
-            group,
-            id,
-            parity: 0,
-        };
-    }
+    let k = product(group.min(65536), s.group.min(256)) + id as usize;
     Stripe {
         group,
         id,
-        parity: k % drives,
+        parity: k.checked_rem(s.drives).unwrap_or(0),
     }
 }
 

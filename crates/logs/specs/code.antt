@@ -1,5 +1,6 @@
 pub mod Answers
 pub mod Ends
+pub mod Folding
 pub mod Generations
 pub mod Judge
 pub mod JudgeMore

@@ -1,4 +1,4 @@
-// What the volume asks of a walked log: each function asks one question (`asking`), of the log in one physical zone of one drive.
+// What the volume asks of a walked log: each function folds one question over it (`asking`), of the log in one physical zone of one drive.
 ghost use Rattle.std.specs.Prelude.{◌≡◌, ◌⊎◌, true, false, [], ◌+◌, ◌*◌, ◌≤◌, ◌<◌, get_or};
 ghost use Rattle.tables.specs.meaning.Lists.{any_of};
 ghost use Rattle.tables.specs.meaning.LittleEndian.{read_le};
@@ -7,13 +7,15 @@ ghost use Rattle.logs.specs.code.WalkCode.{InLog, log_sectors};
 ghost use Rattle.logs.specs.meaning.Walk.{walk_log};
 ghost use Rattle.logs.specs.meaning.Heads.{last_lost, labelled, array_in, generation_in, is_reset, is_seal, is_seal_at, least_seal, ends_at, first_closing};
 ghost use Rattle.logs.specs.laws.Heads.{is_counters, ends_within};
-ghost use Rattle.logs.specs.code.Query.{log_heads, first_seen, label_seen, array_seen, torn_seen, closing_seen};
+ghost use Rattle.logs.specs.code.Query.{log_heads, first_seen, torn_seen};
+ghost use Rattle.logs.specs.code.QueryLaws.{SmallSeen};
+ghost use Rattle.logs.specs.code.Folding.{reset_found, seal_found, seal_at_found, within_found};
 ghost use Rattle.logs.specs.declared.Found.TheVariants.{Bad};
-ghost use Rattle.logs.specs.code.KeptLabel.{later_label, last_label_seen, array_after, relabelled, label_kept, LabelFits};
+ghost use Rattle.logs.specs.code.KeptLabel.{last_label_seen, label_kept, LabelFits};
 ghost use Rattle.logs.specs.laws.Places.{last_place};
 
-use super::asking::ask_log;
-use super::{Found, Log, Query, Step, WalkEnd};
+use super::asking::fold_log;
+use super::{Found, Log, WalkEnd};
 use tables::Geometry;
 
 // The lost drive of the last label of a drive's general log; 255 if there is none.
@@ -23,7 +25,10 @@ pub fn last_lost(sectors: &[u8], g: Geometry, log: Log) -> usize
     ensures { (result ≡ last_lost 255 (log_heads g log.drive false log.zone log.written sectors.now))
         × ((result < g.drives) ⊎ (result ≡ 255)) }
 {
-    ask_log(Query::LastLost, sectors, g, log, false, 255)
+    fold_log(sectors, g, log, false, 255, |lost, _, f| match f {
+        Found::Label(drive, _) => drive,
+        _ => lost,
+    })
 }
 
 // The place of the last counters, counted from 1; 0 if there are none.
@@ -33,7 +38,17 @@ pub fn last_counters(sectors: &[u8], g: Geometry, log: Log) -> usize
     ensures { (result ≡ last_place g is_counters 0 0 (log_heads g log.drive false log.zone log.written sectors.now))
         × (result ≤ log.written) }
 {
-    ask_log(Query::LastCounters, sectors, g, log, false, 0)
+    fold_log(sectors, g, log, false, 0, |last, place, f| match f {
+        Found::Counters => place + 1,
+        _ => last,
+    })
+}
+
+// Whether what was found is a reset of a zone and generation.
+fn is_reset(f: Found, z: usize, generation: u64) -> bool
+    ensures { result ≡ reset_found z generation f }
+{
+    matches!(f, Found::Resets(y, n) if y == z && n == generation)
 }
 
 // Whether there is a reset of a zone and generation.
@@ -42,8 +57,16 @@ pub fn has_reset(sectors: &[u8], g: Geometry, log: Log, z: usize, generation: u6
     requires in_log { InLog g log.drive log.zone log.written sectors.now }
     ensures { result ≡ any_of (is_reset z generation) (log_heads g log.drive false log.zone log.written sectors.now) }
 {
-    let query = Query::ResetOf(z, generation);
-    ask_log(query, sectors, g, log, false, 0) == 1
+    fold_log(sectors, g, log, false, false, |told, _, f| {
+        told || is_reset(f, z, generation)
+    })
+}
+
+// Whether what was found is a seal of a zone and generation.
+fn is_seal(f: Found, z: usize, generation: u64) -> bool
+    ensures { result ≡ seal_found z generation f }
+{
+    matches!(f, Found::Seal(y, _, n) if y == z && n == generation)
 }
 
 // Whether there is a seal of a zone and generation.
@@ -52,8 +75,16 @@ pub fn has_seal(sectors: &[u8], g: Geometry, log: Log, z: usize, generation: u64
     requires in_log { InLog g log.drive log.zone log.written sectors.now }
     ensures { result ≡ any_of (is_seal z generation) (log_heads g log.drive false log.zone log.written sectors.now) }
 {
-    let query = Query::SealOf(z, generation);
-    ask_log(query, sectors, g, log, false, 0) == 1
+    fold_log(sectors, g, log, false, false, |told, _, f| {
+        told || is_seal(f, z, generation)
+    })
+}
+
+// Whether what was found is one with just that pointer.
+fn is_seal_at(f: Found, z: usize, generation: u64, pointer: usize) -> bool
+    ensures { result ≡ seal_at_found z generation pointer f }
+{
+    matches!(f, Found::Seal(y, q, n) if y == z && n == generation && q == pointer)
 }
 
 // Whether there is one with just that pointer.
@@ -69,8 +100,9 @@ pub fn has_seal_at(
     requires in_log { InLog g log.drive log.zone log.written sectors.now }
     ensures { result ≡ any_of (is_seal_at z generation pointer) (log_heads g log.drive false log.zone log.written sectors.now) }
 {
-    let query = Query::SealAt(z, generation, pointer);
-    ask_log(query, sectors, g, log, false, 0) == 1
+    fold_log(sectors, g, log, false, false, |told, _, f| {
+        told || is_seal_at(f, z, generation, pointer)
+    })
 }
 
 // The least pointer of the seals of a zone and generation, and of `most`.
@@ -87,8 +119,29 @@ pub fn least_seal(
     ensures { (result ≡ least_seal z generation most (log_heads g log.drive false log.zone log.written sectors.now))
         × (result ≤ most) }
 {
-    let query = Query::LeastSeal(z, generation);
-    ask_log(query, sectors, g, log, false, most)
+    fold_log(sectors, g, log, false, most, |least, _, f| match f {
+        Found::Seal(_, pointer, _) => {
+            if is_seal(f, z, generation) {
+                least.min(pointer)
+            } else {
+                least
+            }
+        }
+        _ => least,
+    })
+}
+
+// Whether what was found is a partial parity entry of a zone and generation that ends past `low` and at most at `high`.
+fn ends_within(f: Found, g: Geometry, z: usize, generation: u64, low: usize, high: usize) -> bool
+    requires valid { Valid g }
+    requires small_seen { SmallSeen g f }
+    ensures { result ≡ within_found g z generation low high f }
+{
+    let Found::Partial(y, s, fill, n) = f else {
+        return false;
+    };
+    let end = s * tables::bounds::stripe_sectors(g) + fill;
+    y == z && n == generation && low < end && end <= high
 }
 
 // The place, counted from 1, of the last whole partial parity entry of a zone and generation that ends past `low` and at most at `high`;
@@ -107,8 +160,13 @@ pub fn last_partial(
     ensures { (result ≡ last_place g (ends_within g z generation low high) 0 0 (log_heads g log.drive true log.zone log.written sectors.now))
         × (result ≤ log.written) }
 {
-    let query = Query::LastPartial(z, generation, low, high);
-    ask_log(query, sectors, g, log, true, 0)
+    fold_log(sectors, g, log, true, 0, |last, place, f| {
+        if ends_within(f, g, z, generation, low, high) {
+            place + 1
+        } else {
+            last
+        }
+    })
 }
 
 // Whether there is one that ends just at a pointer.
@@ -159,40 +217,9 @@ pub fn first_entry(sectors: &[u8], g: Geometry, log: Log, parity: bool) -> Found
     requires in_log { InLog g log.drive log.zone log.written sectors.now }
     ensures { result ≡ first_seen (log_heads g log.drive parity log.zone log.written sectors.now) }
 {
-    let step = super::walking::next_entry(sectors, g, log, parity, 0);
-    match step {
-        Step::Left(_) => Found::Bad,
-        Step::Whole(f, _) => f,
-    }
-}
-
-// Whether it is a label.
-fn is_label(f: Found) -> bool
-    ensures { result ≡ label_seen f }
-{
-    match f {
-        Found::Bad => false,
-        Found::Label(_, _) => true,
-        Found::Counters => false,
-        Found::Resets(_, _) => false,
-        Found::Partial(_, _, _, _) => false,
-        Found::Seal(_, _, _) => false,
-        Found::Closing(_) => false,
-    }
-}
-
-// A label's array number; 0 for anything else.
-fn array_of(f: Found) -> u64
-    ensures { result ≡ array_seen f }
-{
-    match f {
-        Found::Bad => 0,
-        Found::Label(_, array) => array,
-        Found::Counters => 0,
-        Found::Resets(_, _) => 0,
-        Found::Partial(_, _, _, _) => 0,
-        Found::Seal(_, _, _) => 0,
-        Found::Closing(_) => 0,
+    match super::walking::next_entry(sectors, g, log, parity, 0) {
+        Ok((f, _)) => f,
+        Err(_) => Found::Bad,
     }
 }
 
@@ -202,8 +229,7 @@ pub fn begins_labelled(sectors: &[u8], g: Geometry, log: Log) -> bool
     requires in_log { InLog g log.drive log.zone log.written sectors.now }
     ensures { result ≡ labelled (log_heads g log.drive false log.zone log.written sectors.now) }
 {
-    let f = first_entry(sectors, g, log, false);
-    is_label(f)
+    matches!(first_entry(sectors, g, log, false), Found::Label(_, _))
 }
 
 // The array number of that label; 0 if there is none.
@@ -212,8 +238,11 @@ pub fn first_array(sectors: &[u8], g: Geometry, log: Log) -> u64
     requires in_log { InLog g log.drive log.zone log.written sectors.now }
     ensures { result ≡ array_in (log_heads g log.drive false log.zone log.written sectors.now) }
 {
-    let f = first_entry(sectors, g, log, false);
-    array_of(f)
+    if let Found::Label(_, array) = first_entry(sectors, g, log, false) {
+        array
+    } else {
+        0
+    }
 }
 
 // The entry that is torn; nothing if none is. Its rows that are there reach from its place to the written pointer.
@@ -232,21 +261,6 @@ pub fn torn_entry(sectors: &[u8], g: Geometry, log: Log, parity: bool) -> Found
     super::walking::judge_at(sectors, g, drive, zone, parity, n, p)
 }
 
-// A closing entry's generation; 0 for anything else.
-fn closing_of(f: Found) -> u64
-    ensures { result ≡ closing_seen f }
-{
-    match f {
-        Found::Bad => 0,
-        Found::Label(_, _) => 0,
-        Found::Counters => 0,
-        Found::Resets(_, _) => 0,
-        Found::Partial(_, _, _, _) => 0,
-        Found::Seal(_, _, _) => 0,
-        Found::Closing(generation) => generation,
-    }
-}
-
 // The generation of the first closing entry; 0 if there is none. The walk goes no further than that entry.
 pub fn first_closing(sectors: &[u8], g: Geometry, log: Log, parity: bool) -> u64
     requires valid { Valid g }
@@ -255,29 +269,13 @@ pub fn first_closing(sectors: &[u8], g: Geometry, log: Log, parity: bool) -> u64
 {
     let mut p = 0;
     // kept: where the next entry begins is known only from this one, so there is no range to go over.
-    while let Step::Whole(f, q) = super::walking::next_entry(sectors, g, log, parity, p) {
-        let generation = closing_of(f);
-        if generation != 0 {
+    while let Ok((f, q)) = super::walking::next_entry(sectors, g, log, parity, p) {
+        if let Found::Closing(generation) = f {
             return generation;
         }
         p = q;
     }
     0
-}
-
-// The last label so far, after what was found next.
-fn later_label(f: Found, last: Found) -> Found
-    ensures { result ≡ later_label f last }
-{
-    match f {
-        Found::Bad => last,
-        Found::Label(lost, array) => Found::Label(lost, array),
-        Found::Counters => last,
-        Found::Resets(_, _) => last,
-        Found::Partial(_, _, _, _) => last,
-        Found::Seal(_, _, _) => last,
-        Found::Closing(_) => last,
-    }
 }
 
 // The last label of a drive's general log; nothing if there is none.
@@ -286,44 +284,10 @@ fn last_label(sectors: &[u8], g: Geometry, log: Log) -> Found
     requires in_log { InLog g log.drive log.zone log.written sectors.now }
     ensures { result ≡ last_label_seen Bad (log_heads g log.drive false log.zone log.written sectors.now) }
 {
-    let mut last = Found::Bad;
-    let mut p = 0;
-    // kept: where the next entry begins is known only from this one, so there is no range to go over.
-    while let Step::Whole(f, q) = super::walking::next_entry(sectors, g, log, false, p) {
-        last = later_label(f, last);
-        p = q;
-    }
-    last
-}
-
-// The array number of the log's first entry if that is a label, else a label's own.
-fn array_after(first: Found, own: u64) -> u64
-    ensures { result ≡ array_after first own }
-{
-    match first {
-        Found::Bad => own,
-        Found::Label(_, array) => array,
-        Found::Counters => own,
-        Found::Resets(_, _) => own,
-        Found::Partial(_, _, _, _) => own,
-        Found::Seal(_, _, _) => own,
-        Found::Closing(_) => own,
-    }
-}
-
-// A label with that array number.
-fn relabel(first: Found, last: Found) -> Found
-    ensures { result ≡ relabelled first last }
-{
-    match last {
-        Found::Bad => Found::Bad,
-        Found::Label(lost, own) => Found::Label(lost, array_after(first, own)),
-        Found::Counters => Found::Bad,
-        Found::Resets(_, _) => Found::Bad,
-        Found::Partial(_, _, _, _) => Found::Bad,
-        Found::Seal(_, _, _) => Found::Bad,
-        Found::Closing(_) => Found::Bad,
-    }
+    fold_log(sectors, g, log, false, Found::Bad, |last, _, f| match f {
+        Found::Label(_, _) => f,
+        _ => last,
+    })
 }
 
 // The label that is kept of a general log that is emptied: its last one, with the array number with which the log begins; nothing if it has none.
@@ -333,6 +297,12 @@ pub fn kept_label(sectors: &[u8], g: Geometry, log: Log) -> Found
     ensures { (result ≡ label_kept (log_heads g log.drive false log.zone log.written sectors.now)) × LabelFits result }
 {
     let first = first_entry(sectors, g, log, false);
-    let last = last_label(sectors, g, log);
-    relabel(first, last)
+    let Found::Label(lost, own) = last_label(sectors, g, log) else {
+        return Found::Bad;
+    };
+    if let Found::Label(_, array) = first {
+        Found::Label(lost, array)
+    } else {
+        Found::Label(lost, own)
+    }
 }

@@ -356,15 +356,10 @@ pub fn rows_of(f: Found, g: Geometry) -> usize
     requires { Valid g }
     ensures { (result ≡ rows_seen g f) × (result ≤ 16) }
 {
-    let u = g.unit;
-    match f {
-        Found::Bad => 0,
-        Found::Label(_, _) => 0,
-        Found::Counters => 0,
-        Found::Resets(_, _) => 0,
-        Found::Partial(_, _, n, _) => n.min(u),
-        Found::Seal(_, _, _) => 0,
-        Found::Closing(_) => 0,
+    if let Found::Partial(_, _, n, _) = f {
+        n.min(g.unit)
+    } else {
+        0
     }
 }
 
@@ -372,13 +367,5 @@ pub fn rows_of(f: Found, g: Geometry) -> usize
 pub fn is_bad(f: Found) -> bool
     ensures { result ≡ bad_seen f }
 {
-    match f {
-        Found::Bad => true,
-        Found::Label(_, _) => false,
-        Found::Counters => false,
-        Found::Resets(_, _) => false,
-        Found::Partial(_, _, _, _) => false,
-        Found::Seal(_, _, _) => false,
-        Found::Closing(_) => false,
-    }
+    matches!(f, Found::Bad)
 }

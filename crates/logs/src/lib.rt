@@ -1,6 +1,6 @@
 // The logs of a drive: entries of six types, one sector for each header, laid one after the other from the start of a physical zone.
 // `headers` writes a header, `judging` tells what a sector holds, `walking` steps through a log and finds where its legal part ends, with a
-// `reader` laid over its zone, `asking` carries an answer through a log, and `folds` asks what the volume wants to know of it. Which physical
+// `reader` laid over its zone, `asking` carries a value through a log, and `folds` asks what the volume wants to know of it. Which physical
 // zone holds a log is told to each function of the lent sectors.
 #![tactic(auto)]
 
@@ -70,30 +70,4 @@ pub enum WalkEnd {
     NoEntry(usize, Fault),
     // an entry whose rows reach past the written pointer
     Torn(usize),
-}
-
-// One step of the walk (specs: `step_of`): the walk's end; or a whole entry and where the next one begins.
-#[derive(Clone, Copy)]
-pub enum Step {
-    Left(WalkEnd),
-    Whole(Found, usize),
-}
-
-// A question to a log (specs: `answer`). Places are counted from 1, so that 0 is none.
-#[derive(Clone, Copy)]
-pub enum Query {
-    // the lost drive of the last label
-    LastLost,
-    // the place of the last counters
-    LastCounters,
-    // 1 if there is a reset of a zone and generation
-    ResetOf(usize, u64),
-    // 1 if there is a seal of a zone and generation
-    SealOf(usize, u64),
-    // 1 if there is one with just that pointer
-    SealAt(usize, u64, usize),
-    // the least pointer of the seals of a zone and generation
-    LeastSeal(usize, u64),
-    // the place of the last partial parity of a zone and generation that ends past the first number and at most at the second
-    LastPartial(usize, u64, usize, usize),
 }

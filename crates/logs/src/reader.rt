@@ -5,7 +5,7 @@ ghost use Rattle.std.specs.Prelude.{◌≡◌, ◌≤◌};
 ghost use Rattle.tables.specs.meaning.Geometry.{Valid};
 ghost use Rattle.logs.specs.code.ZoneWalk.{InZone, LegalEnd, step_in_zone};
 
-use super::{Step, WalkEnd};
+use super::{Found, WalkEnd};
 use tables::Geometry;
 
 // A log in its zone: the zone's bytes, the drive, whether it is a parity log, and the zone's written pointer.
@@ -46,7 +46,7 @@ pub fn walk<'a>(r: LogReader<'a>) -> WalkEnd
 }
 
 // One step of the walk of the reader's log, at sector p.
-pub fn step<'a>(r: LogReader<'a>, p: usize) -> Step
+pub fn step<'a>(r: LogReader<'a>, p: usize) -> Result<(Found, usize), WalkEnd>
     requires { Valid r.geometry × (InZone r.geometry r.written r.bytes.now × (p ≤ r.written)) }
     ensures { result ≡ step_in_zone r.entry.geometry r.entry.drive r.entry.parity r.entry.written r.entry.bytes.now p }
 {
@@ -75,7 +75,7 @@ pub fn next_step(
     parity: bool,
     written: usize,
     p: usize,
-) -> Step
+) -> Result<(Found, usize), WalkEnd>
     requires { Valid geometry × (InZone geometry written bytes.now × (p ≤ written)) }
     ensures { result ≡ step_in_zone geometry drive parity written bytes.now p }
 {

@@ -12,7 +12,7 @@ ghost use Rattle.logs.specs.code.WalkCode.{InLog, log_sectors, walk_end_of, end_
 ghost use Rattle.logs.specs.code.Steps.{step_of};
 ghost use Rattle.logs.specs.code.ZoneWalk.{InZone, LegalEnd, sectors_in, step_in_zone, zone_bytes};
 
-use super::{Fault, Found, Log, Step, WalkEnd};
+use super::{Fault, Found, Log, WalkEnd};
 use tables::Geometry;
 
 // What sector p of a log holds.
@@ -66,7 +66,7 @@ fn fault_in_zone(bytes: &[u8], g: Geometry, written: usize, p: usize) -> Fault
     super::judging::fault_of(&bytes[at..end])
 }
 
-// One step of the walk, in the zone's own bytes: the entry that begins at sector p, or why the walk is left there.
+// One step of the walk, in the zone's own bytes: the entry that begins at sector p and where the next one begins, or why the walk is left there.
 pub fn step_in_zone(
     bytes: &[u8],
     g: Geometry,
@@ -74,12 +74,12 @@ pub fn step_in_zone(
     parity: bool,
     written: usize,
     p: usize,
-) -> Step
+) -> Result<(Found, usize), WalkEnd>
     requires { Valid g × (InZone g written bytes.now × (p ≤ written)) }
     ensures { result ≡ step_in_zone g drive parity written bytes.now p }
 {
     if written <= p {
-        return Step::Left(WalkEnd::AtPointer(p));
+        return Err(WalkEnd::AtPointer(p));
     }
     let c = g.capacity;
     let f = judge_in_zone(bytes, g, drive, parity, written, p);
@@ -88,15 +88,15 @@ pub fn step_in_zone(
     let q = p + 1 + rows;
     if bad {
         let fault = fault_in_zone(bytes, g, written, p);
-        return Step::Left(WalkEnd::NoEntry(p, fault));
+        return Err(WalkEnd::NoEntry(p, fault));
     }
     if c < q {
-        return Step::Left(WalkEnd::NoEntry(p, Fault::RowsPast));
+        return Err(WalkEnd::NoEntry(p, Fault::RowsPast));
     }
     if written < q {
-        return Step::Left(WalkEnd::Torn(p));
+        return Err(WalkEnd::Torn(p));
     }
-    Step::Whole(f, q)
+    Ok((f, q))
 }
 
 // Where the legal part of a log ends, and why: over its entries and their rows, in the zone's own bytes.
@@ -108,12 +108,8 @@ pub fn walk_zone(bytes: &[u8], g: Geometry, drive: usize, parity: bool, written:
     // kept: where the next entry begins is known only from this one, so there is no range to go over.
     loop {
         match step_in_zone(bytes, g, drive, parity, written, p) {
-            Step::Left(end) => {
-                return end;
-            }
-            Step::Whole(_, q) => {
-                p = q;
-            }
+            Ok((_, q)) => p = q,
+            Err(end) => return end,
         }
     }
 }
@@ -134,7 +130,13 @@ fn zone_part<'a>(sectors: &'a [u8], g: Geometry, drive: usize, zone: usize) -> &
 }
 
 // One step of the walk, for a zone of the lent sectors: a reader is laid over the zone's part of them, and takes it.
-pub fn next_entry(sectors: &[u8], g: Geometry, log: Log, parity: bool, p: usize) -> Step
+pub fn next_entry(
+    sectors: &[u8],
+    g: Geometry,
+    log: Log,
+    parity: bool,
+    p: usize,
+) -> Result<(Found, usize), WalkEnd>
     requires valid { Valid g }
     requires in_log { InLog g log.drive log.zone log.written sectors.now × (p ≤ log.written) }
     ensures { result ≡ step_of g p (left_at g log.drive parity (log_sectors g log.drive log.zone sectors.now log.written) p) }

@@ -50,6 +50,7 @@ use Rattle.mounting.specs.MountJoined.{with_flush_on, entry_phases_lem, parity_j
 use Rattle.mounting.specs.MountEnds.{end_places, parity_emptyings, course_of, ParityStepMade, EndsReady, EndsMade}
 use Rattle.mounting.specs.PlannedPlaces.{middle_of, middle_geometry_lem, middle_valid, middle_cells}
 use Rattle.mounting.specs.ParityLogsMade.{role_read, end_of, end_proper, end_kinds, end_is, to_is, starts_of, parities_ready, parity_step_made}
+use Rattle.volume.specs.looking.MovedLogs.{is_emptied}
 
 -- ---- the step's stores are on the drives of the geometry
 module _ (g : Geometry) where
@@ -162,7 +163,7 @@ module _ (g : Geometry) (t : Tables) (p : Plan) (start : List ℕ) (k : Planned 
       let flushed : ℕ → List Store → List (List Store) = λ n l. l ∷ pick (is_nil l) [] (on_present a (flush_all n)) ∷ [] in
       let same : with_flush h1 a (code_stores h1 h2) ≡ with_flush g a step = ap (λ (h : Geometry). flushed h.drives (on_present a (code_stores h1 h2))) (middle_geometry_lem g t p start k) ∙ ap (flushed g.drives) stores_are in
       let one : Made (with_roles g q) rest end (concat (with_flush g a step)) v w = subst (λ (h : Geometry). Made h rest end (concat (with_flush g a step)) v w) (to_is g t p start k) (subst (λ (l : List (List Store)). Made h2 rest end (concat l) v w) same m) in
-      let phases = entry_phases_lem g a (lost_among g p.here) t (is_set p.general.emptied) (is_set p.parity.emptied) k.general.emptied_are k.parity.emptied_are (device_of g v) in
+      let phases = entry_phases_lem g a (lost_among g p.here) t (is_emptied p.general.emptied) (is_emptied p.parity.emptied) k.general.emptied_are k.parity.emptied_are (device_of g v) in
       subst (λ (l : List Store). Made g rest end l v w) (sym (ap concat phases ∙ concat_carried (placed_by q) (with_flush g a step)))
       (made_by_roles g k.first q (end_proper g t p start k) rest end (concat (with_flush g a step)) v w (with_flush_on g a step (entries_on_lem g shown last)) one)
 

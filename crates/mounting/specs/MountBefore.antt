@@ -1,5 +1,5 @@
 -- A mount up to its step 9: the phases of the logs, then steps 3 to 9 carried to where the logs lie by then; and where that is, as the code has it.
-use Rattle.std.specs.Prelude.{◌≡◌, refl, Bool, true, length, replicate, eqb}
+use Rattle.std.specs.Prelude.{◌≡◌, refl, Bool, true, length, replicate, eqb, Option}
 use Rattle.std.proofs.Common.{sym, ap, ◌∙◌, subst, arith, ne_eqb}
 use Rattle.std.proofs.Math.Path.{ap₂}
 use Rattle.std.proofs.Math.Bool.{false}
@@ -16,7 +16,7 @@ use Rattle.tables.specs.meaning.Tables.{Tables, tables_of, device_of}
 use Rattle.tables.specs.laws.Made.{Made}
 use Rattle.tables.specs.laws.Counted.{made_append}
 use Rattle.volume.specs.declared.roles.LogPlaces.{LogPlaces}
-use Rattle.volume.specs.meaning.CallContracts.{is_set, roles_of, seen_in, stores_before}
+use Rattle.volume.specs.meaning.CallContracts.{roles_of, seen_in, stores_before}
 use Rattle.volume.specs.meaning.Rules.{Shown, showing}
 use Rattle.volume.specs.meaning.Roles.{Roles, roles, by_roles, seen_as, placed_by, emptied_roles, roles_after}
 use Rattle.volume.specs.meaning.Emptying.{mount_general_limit, emptied_for}
@@ -26,7 +26,7 @@ use Rattle.volume.specs.laws.EmptyingStored.{seen_by}
 use Rattle.volume.specs.looking.Knowing.{read_device}
 use Rattle.volume.specs.looking.KnowingLaws.{sectors_alike}
 use Rattle.volume.specs.looking.HiddenLogs.{places_of, hidden_logs, hidden_by}
-use Rattle.volume.specs.looking.MovedLogs.{moved_by_roles}
+use Rattle.volume.specs.looking.MovedLogs.{is_emptied, moved_by_roles}
 use Rattle.mounting.specs.LookAgrees.{labels_same, differ_same, seals_same}
 use Rattle.mounting.specs.RestoreAgrees.{torn_same, fill_same}
 use Rattle.mounting.specs.MountRooms.{places_after}
@@ -64,26 +64,26 @@ module _ (g : Geometry) (a : ℕ → Bool) (x : ℕ) (t : Tables) (e : ℕ → B
       subst (λ (ss : List Store). Made g budget rest ss t v) (sym before_stores) (made_append g budget mid rest (concat (phases_of_logs g a x (device_of g t))) middle_stores t u v m k)
 
 -- ---- where the logs lie after emptyings, as the code has it: no drive of these lacks a kind
-module _ (g : Geometry) (r : ℕ → Roles) (proper : (d : ℕ) → Proper (r d)) (par : Bool) (emptied : List Bool) (kinds : (d : ℕ) → is_set emptied d ≡ true → (eqb (r d).general_claim 0 ≡ false) × (eqb (r d).parity_claim 0 ≡ false)) where
+module _ (g : Geometry) (r : ℕ → Roles) (proper : (d : ℕ) → Proper (r d)) (par : Bool) (emptied : List (Option ℕ)) (kinds : (d : ℕ) → is_emptied emptied d ≡ true → (eqb (r d).general_claim 0 ≡ false) × (eqb (r d).parity_claim 0 ≡ false)) where
   tabulate_alike : (f h : ℕ → Bool) → ((d : ℕ) → f d ≡ h d) → (n : ℕ) → tabulate f n ≡ tabulate h n
   tabulate_alike f h e zero = refl
   tabulate_alike f h e (suc n) = ap₂ (λ (l : List Bool) (b : Bool). l ++ (b ∷ [])) (tabulate_alike f h e n) (e n)
 
-  claims_are : (d : ℕ) → (eqb (r d).general_claim 0 ≡ eqb (roles_after par (is_set emptied) r d).general_claim 0) × (eqb (r d).parity_claim 0 ≡ eqb (roles_after par (is_set emptied) r d).parity_claim 0)
-  claims_are d = go (is_set emptied d) refl par
+  claims_are : (d : ℕ) → (eqb (r d).general_claim 0 ≡ eqb (roles_after par (is_emptied emptied) r d).general_claim 0) × (eqb (r d).parity_claim 0 ≡ eqb (roles_after par (is_emptied emptied) r d).parity_claim 0)
+  claims_are d = go (is_emptied emptied d) refl par
     where
-      go : (b : Bool) → is_set emptied d ≡ b → (c : Bool) → (eqb (r d).general_claim 0 ≡ eqb (pick b (emptied_roles c (r d)) (r d)).general_claim 0) × (eqb (r d).parity_claim 0 ≡ eqb (pick b (emptied_roles c (r d)) (r d)).parity_claim 0)
+      go : (b : Bool) → is_emptied emptied d ≡ b → (c : Bool) → (eqb (r d).general_claim 0 ≡ eqb (pick b (emptied_roles c (r d)) (r d)).general_claim 0) × (eqb (r d).parity_claim 0 ≡ eqb (pick b (emptied_roles c (r d)) (r d)).parity_claim 0)
       go true h true = (refl, (kinds d h).1 ∙ sym (ne_eqb (suc (r d).parity_claim) 0 (λ i. omega (arith, i))))
       go true h false = ((kinds d h).0 ∙ sym (ne_eqb (suc (r d).general_claim) 0 (λ i. omega (arith, i))), refl)
       go false h c = (refl, refl)
 
-  pub places_after_lem : places_after (places_of g r) par emptied ≡ places_of g (roles_after par (is_set emptied) r)
+  pub places_after_lem : places_after (places_of g r) par emptied ≡ places_of g (roles_after par (is_emptied emptied) r)
   places_after_lem =
-      let r' = roles_after par (is_set emptied) r in
+      let r' = roles_after par (is_emptied emptied) r in
       let one : tabulate (λ d. eqb (r d).general_claim 0) g.drives ≡ tabulate (λ d. eqb (r' d).general_claim 0) g.drives = tabulate_alike _ _ (λ d. (claims_are d).0) g.drives in
       let two : tabulate (λ d. eqb (r d).parity_claim 0) g.drives ≡ tabulate (λ d. eqb (r' d).parity_claim 0) g.drives = tabulate_alike _ _ (λ d. (claims_are d).1) g.drives in
       let build : Geometry → List Bool → List Bool → LogPlaces = λ h x y. record { geometry = h; no_general = x ++ replicate (max_drives - g.drives) false; no_parity = y ++ replicate (max_drives - g.drives) false } in
-      ap₂ (λ (h : Geometry) (x : List Bool). build h x (tabulate (λ d. eqb (r d).parity_claim 0) g.drives)) (moved_by_roles g r proper par (is_set emptied)) one
+      ap₂ (λ (h : Geometry) (x : List Bool). build h x (tabulate (λ d. eqb (r d).parity_claim 0) g.drives)) (moved_by_roles g r proper par (is_emptied emptied)) one
       ∙ ap (build (with_roles g r') (tabulate (λ d. eqb (r' d).general_claim 0) g.drives)) two
 
 -- ---- WHAT THE CODE READS then: the device by the roles of that moment (v: what the tables stand for)

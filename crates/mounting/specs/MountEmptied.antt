@@ -42,6 +42,7 @@ use Rattle.mounting.specs.MountOpening.{seen_alike, emptyings_present}
 use Rattle.mounting.specs.MountOpened.{opening_flush, opening_spares, opening_general, opening_stores}
 use Rattle.volume.specs.laws.OpeningFlush.{opening_sectors}
 use Rattle.mounting.specs.PlannedPlaces.{general_here}
+use Rattle.volume.specs.looking.MovedLogs.{is_emptied}
 
 -- ---- all made, the tables stand for the device after all of them
 pub made_device : (g : Geometry) (budget rest : ℕ) (ss : List Store) (t u : Tables) → WellSized g t → FitsAll g ss (device_of g t) → Made g budget rest ss t u → rest ≢ 0 → device_of g u ≡ apply_all ss (device_of g t)
@@ -51,21 +52,21 @@ made_device g budget rest ss t u w f m n =
 
 -- ---- THE GENERAL LOGS ARE EMPTIED
 module _ (g : Geometry) (ok : Valid g) (t : Tables) (p : Plan) (ps : List ℕ) (k : Planned g t p ps) where
-  emptied_in_lem : (d : ℕ) → is_set p.general.emptied d ≡ true → d < g.drives
+  emptied_in_lem : (d : ℕ) → is_emptied p.general.emptied d ≡ true → d < g.drives
   emptied_in_lem d e = k.here_in d (general_here g t p ps k d e)
 
-  stage_emptied : Emptied g (is_set p.here) (by_look (showing g (is_set p.here) (lost_among g p.here) (seen_in g t))) (roles_of g t) (is_set p.general.emptied) (seen_in g t)
-      (seen_by (roles_after false (is_set p.general.emptied) (roles_of g t))
-      (apply_all (empty_general g (is_set p.here) (roles_of g t) (by_look (showing g (is_set p.here) (lost_among g p.here) (seen_in g t))) (is_set p.general.emptied) (seen_in g t)) (stage g (is_set p.here) (device_of g t))))
+  stage_emptied : Emptied g (is_set p.here) (by_look (showing g (is_set p.here) (lost_among g p.here) (seen_in g t))) (roles_of g t) (is_emptied p.general.emptied) (seen_in g t)
+      (seen_by (roles_after false (is_emptied p.general.emptied) (roles_of g t))
+      (apply_all (empty_general g (is_set p.here) (roles_of g t) (by_look (showing g (is_set p.here) (lost_among g p.here) (seen_in g t))) (is_emptied p.general.emptied) (seen_in g t)) (stage g (is_set p.here) (device_of g t))))
   stage_emptied =
       let a = is_set p.here in
       let r = roles_of g t in
       let w = seen_in g t in
       let f = by_look (showing g (is_set p.here) (lost_among g p.here) (seen_in g t)) in
-      let e = is_set p.general.emptied in
+      let e = is_emptied p.general.emptied in
       let here = general_here g t p ps k in
       let size : ℕ → ℕ = λ d. new_general_size g f (general_heads g w d) in
-      let full : (d : ℕ) → is_set p.general.emptied d ≡ true → (new_general_size g f (general_heads g w d) ≤ g.capacity) × (1 ≤ (r d).general_claim) × ((r d).general_claim ≤ worn_generation) = λ d q. not_full g false r (mount_general_limit g) (size d) d (omega arith) (k.general.roomy d q) in
+      let full : (d : ℕ) → is_emptied p.general.emptied d ≡ true → (new_general_size g f (general_heads g w d) ≤ g.capacity) × (1 ≤ (r d).general_claim) × ((r d).general_claim ≤ worn_generation) = λ d q. not_full g false r (mount_general_limit g) (size d) d (omega arith) (k.general.roomy d q) in
       emptied_by_stores g a r f e w (stage g (is_set p.here) (device_of g t)) emptied_in_lem (λ d q. proper_apart (r d) (roles_proper g (device_of g t) d)) (λ d q. stage_blank g a (device_of g t) d (emptied_in_lem d q) (here d q))
       (λ d y h. stage_seen g a (device_of g t) d y h) ok here (λ z h. look_in_force g a (lost_among g p.here) w z)
       (λ d q. label_there g a w k.labelled d (emptied_in_lem d q) (here d q)) (λ d q. ((full d q).1, (full d q).2)) (λ d q. (full d q).0)
@@ -140,11 +141,11 @@ module _ (g : Geometry) (ok : Valid g) (t : Tables) (p : Plan) (ps : List ℕ) (
     logs_sized = rw m.tables_are (run_sized g (budget - 1) (concat (phases_of_logs g a x (device_of g t))) t k.sized (fits_all_placed g (concat (phases_of_logs g a x (device_of g t))) (device_of g t) logs_fit))
 
     -- the device, but for what the last flush made durable
-    logs_made : rest ≢ 0 → (d y : ℕ) → (device_of g u d y).sectors ≡ (apply_all (empty_general g a (roles_of g t) f (is_set p.general.emptied) (seen_in g t)) (stage g a (device_of g t)) d y).sectors
+    logs_made : rest ≢ 0 → (d y : ℕ) → (device_of g u d y).sectors ≡ (apply_all (empty_general g a (roles_of g t) f (is_emptied p.general.emptied) (seen_in g t)) (stage g a (device_of g t)) d y).sectors
     unfolding empty_general
     logs_made n d y =
         let v = device_of g t in
-        let e = is_set p.general.emptied in
+        let e = is_emptied p.general.emptied in
         let q = k.general.emptied_are in
         let r = roles_of g t in
         let w = seen_in g t in
@@ -158,8 +159,8 @@ module _ (g : Geometry) (ok : Valid g) (t : Tables) (p : Plan) (ps : List ℕ) (
         ∙ ap (λ (ss : List Store). (apply_all ss (stage g a v) d y).sectors) (emptyings_present g a false r e (λ d. new_general g f (r d) d (general_heads g w d)) (λ d i. general_here g t p ps k d i))
 
     -- by the roles of then: the device that the mount met with general logs emptied
-    pub logs_emptied : rest ≢ 0 → Emptied g a f (roles_of g t) (is_set p.general.emptied) (seen_in g t) (seen_by (roles_after false (is_set p.general.emptied) (roles_of g t)) (device_of g u))
+    pub logs_emptied : rest ≢ 0 → Emptied g a f (roles_of g t) (is_emptied p.general.emptied) (seen_in g t) (seen_by (roles_after false (is_emptied p.general.emptied) (roles_of g t)) (device_of g u))
     logs_emptied n =
-        let r1 = roles_after false (is_set p.general.emptied) (roles_of g t) in
-        let v1 = apply_all (empty_general g a (roles_of g t) f (is_set p.general.emptied) (seen_in g t)) (stage g a (device_of g t)) in
-        emptied_alike g a f (roles_of g t) (is_set p.general.emptied) (seen_in g t) (seen_by r1 v1) (seen_by r1 (device_of g u)) (λ d y. seen_alike (r1 d) (device_of g u d) (v1 d) (λ z. logs_made n d z) y) (stage_emptied g ok t p ps k)
+        let r1 = roles_after false (is_emptied p.general.emptied) (roles_of g t) in
+        let v1 = apply_all (empty_general g a (roles_of g t) f (is_emptied p.general.emptied) (seen_in g t)) (stage g a (device_of g t)) in
+        emptied_alike g a f (roles_of g t) (is_emptied p.general.emptied) (seen_in g t) (seen_by r1 v1) (seen_by r1 (device_of g u)) (λ d y. seen_alike (r1 d) (device_of g u d) (v1 d) (λ z. logs_made n d z) y) (stage_emptied g ok t p ps k)

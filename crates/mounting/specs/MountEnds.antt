@@ -30,14 +30,14 @@ end_places p = places_after (middle_places p) true p.parity.emptied
 
 -- the emptyings of step 10
 abbrev pub parity_emptyings : Plan → Emptyings
-parity_emptyings p = record { from = (middle_places p).geometry; to = (end_places p).geometry; here = p.here; emptied = p.parity.emptied; generations = p.parity.generations }
+parity_emptyings p = record { from = (middle_places p).geometry; to = (end_places p).geometry; here = p.here; emptied = p.parity.emptied }
 
 -- what the steps of a mount go by
 abbrev pub course_of : Plan → Course
 course_of p = record {
   middle = middle_places p;
   end = end_places p;
-  general = record { from = p.places.geometry; to = (middle_places p).geometry; here = p.here; emptied = p.general.emptied; generations = p.general.generations };
+  general = record { from = p.places.geometry; to = (middle_places p).geometry; here = p.here; emptied = p.general.emptied };
   parity = parity_emptyings p;
   basis = record { geometry = (middle_places p).geometry; here = p.here; look = p.look; differ = p.differ };
 }

@@ -37,6 +37,7 @@ use Rattle.volume.specs.emptying.SameCopies.{parity_new, parity_by_lem}
 use Rattle.volume.specs.emptying.Carried.{emptied_by, carry_emptyings, on_drives_append, on_drives_present, on_drives_flushes, on_drives_emptyings, made_by_roles}
 use Rattle.volume.specs.laws.EachBelow.{each_below_cong}
 use Rattle.mounting.specs.MountOpening.{opened_roles, opened_look, opened_lacks, present_kept}
+use Rattle.volume.specs.looking.MovedLogs.{is_emptied, new_generation}
 
 -- ---- all parts
 module _ (g : Geometry) (a : ℕ → Bool) (x : ℕ) (t : Tables) where
@@ -95,13 +96,13 @@ emptied_on_lem g a par e ss h (suc n) = on_append a (emptied_by g a par e ss n) 
 
 -- ---- step 10, made by the geometries that place the logs before and after
 module _ (g : Geometry) (first : g.logs ≡ 0) (a : ℕ → Bool) (r : ℕ → Roles) (proper : (d : ℕ) → Proper (r d)) (all : Emptyings) (from_is : all.from ≡ with_roles g r) (here_is : is_set all.here ≡ a)
-    (to_is : all.to ≡ with_roles g (roles_after true (is_set all.emptied) r)) where
+    (to_is : all.to ≡ with_roles g (roles_after true (is_emptied all.emptied) r)) where
   same_from : SameShape g all.from
   same_from = rw from_is (relaid_shape g (logs_of r g.drives))
 
-  module _ (gs qs xs ps ss : List ℕ) (f : InForce) (w : Device) (entries : (d : ℕ) → d < g.drives → is_set all.emptied d ≡ true → parity_entries all.from (read_device all.from xs ss) d ≡ parity_entries g w d)
+  module _ (gs qs xs ps ss : List ℕ) (f : InForce) (w : Device) (entries : (d : ℕ) → d < g.drives → is_emptied all.emptied d ≡ true → parity_entries all.from (read_device all.from xs ss) d ≡ parity_entries g w d)
       (force : (z : ℕ) → z < g.zones → (get_or gs z 0 ≡ f.generation z) × (get_or qs z 0 ≡ f.pointer z) × (value_at all.from (is_set all.here) (read_device all.from xs ps) z (get_or gs z 0) ≡ f.value z))
-      (claims : (d : ℕ) → is_set all.emptied d ≡ true → get_or all.generations d 0 ≡ claim_of_kind true (r d)) where
+      (claims : (d : ℕ) → is_emptied all.emptied d ≡ true → new_generation all.emptied d ≡ claim_of_kind true (r d)) where
     -- the copies of drive d's parity log
     abbrev copies_on : ℕ → List (List ℕ)
     copies_on d = entry_sectors (emptying_of all d) (copied_entries (emptying_of all d) gs qs ps ss xs)
@@ -110,7 +111,7 @@ module _ (g : Geometry) (first : g.logs ≡ 0) (a : ℕ → Bool) (r : ℕ → R
     unfolding new_parity
     new_parity_by d es = rw (parity_by_lem g (in_force_by (emptying_of all d) gs qs (read_device all.from xs ps)) f d es force) refl
 
-    one_parity : (d : ℕ) → d < g.drives → (b : Bool) → is_set all.emptied d ≡ b
+    one_parity : (d : ℕ) → d < g.drives → (b : Bool) → is_emptied all.emptied d ≡ b
         → pick b (emptying_stores all.from (is_set all.here) d spare_zone (kind_of_log true) (with_closing (emptying_of all d) true (copies_on d))) [] ≡ pick b (emptying_stores g a d spare_zone (kind_of_log true) (new_parity g f (r d) d (parity_entries g w d))) []
     one_parity d hd true q =
         let es = old_entries (emptying_of all d) (read_device all.from xs ss) in
@@ -127,27 +128,27 @@ module _ (g : Geometry) (first : g.logs ≡ 0) (a : ℕ → Bool) (r : ℕ → R
     abbrev made_stores : List Store
     made_stores = each_below (λ d. emptied_on all true (copies_on d) d) all.from.drives
 
-    made_are : made_stores ≡ emptied_by g a true (is_set all.emptied) new g.drives
+    made_are : made_stores ≡ emptied_by g a true (is_emptied all.emptied) new g.drives
     made_are =
         ap (each_below (λ d. emptied_on all true (copies_on d) d)) (ap (λ (h : Geometry). h.drives) from_is)
-        ∙ each_below_cong _ _ g.drives (λ d hd. one_parity d hd (is_set all.emptied d) refl)
+        ∙ each_below_cong _ _ g.drives (λ d hd. one_parity d hd (is_emptied all.emptied d) refl)
 
     -- WITH ITS FLUSH
     pub parity_flushed : (budget rest : ℕ) (t u : Tables) → Made all.to budget rest (concat (with_flush all.to (is_set all.here) made_stores)) t u
-        → Made g budget rest (concat (with_flush g a (empty_parity g a r f (is_set all.emptied) w))) t u
+        → Made g budget rest (concat (with_flush g a (empty_parity g a r f (is_emptied all.emptied) w))) t u
     unfolding empty_parity
     parity_flushed budget rest t u m =
-        let r' = roles_after true (is_set all.emptied) r in
-        let ss = emptied_by g a true (is_set all.emptied) new g.drives in
+        let r' = roles_after true (is_emptied all.emptied) r in
+        let ss = emptied_by g a true (is_emptied all.emptied) new g.drives in
         let one : Made (with_roles g r') budget rest (concat (with_flush (with_roles g r') (is_set all.here) made_stores)) t u = subst (λ (h : Geometry). Made h budget rest (concat (with_flush h (is_set all.here) made_stores)) t u) to_is m in
         let two : Made (with_roles g r') budget rest (concat (with_flush g a ss)) t u =
         subst (λ (l : List Store). Made (with_roles g r') budget rest l t u) (ap₂ (λ (b : ℕ → Bool) (l : List Store). concat (with_flush g b l)) here_is made_are) one in
-        let on = with_flush_on g a ss (on_drives_emptyings g a true (is_set all.emptied) new g.drives (le_refl g.drives)) in
-        subst (λ (l : List Store). Made g budget rest l t u) (sym (step_carried g a (placed_by r') ss) ∙ ap (λ (l : List Store). concat (with_flush g a l)) (carry_emptyings g a true r (is_set all.emptied) new))
-        (made_by_roles g first r' (roles_after_proper true (is_set all.emptied) r proper) budget rest (concat (with_flush g a ss)) t u on two)
+        let on = with_flush_on g a ss (on_drives_emptyings g a true (is_emptied all.emptied) new g.drives (le_refl g.drives)) in
+        subst (λ (l : List Store). Made g budget rest l t u) (sym (step_carried g a (placed_by r') ss) ∙ ap (λ (l : List Store). concat (with_flush g a l)) (carry_emptyings g a true r (is_emptied all.emptied) new))
+        (made_by_roles g first r' (roles_after_proper true (is_emptied all.emptied) r proper) budget rest (concat (with_flush g a ss)) t u on two)
 
     -- its stores are on present drives
-    pub parity_present : ((d : ℕ) → is_set all.emptied d ≡ true → a d ≡ true) → on_present (is_set all.here) made_stores ≡ made_stores
+    pub parity_present : ((d : ℕ) → is_emptied all.emptied d ≡ true → a d ≡ true) → on_present (is_set all.here) made_stores ≡ made_stores
     parity_present h =
         ap₂ on_present here_is made_are
-        ∙ present_kept a (emptied_by g a true (is_set all.emptied) new g.drives) (emptied_on_lem g a true (is_set all.emptied) new h g.drives) ∙ sym made_are
+        ∙ present_kept a (emptied_by g a true (is_emptied all.emptied) new g.drives) (emptied_on_lem g a true (is_emptied all.emptied) new h g.drives) ∙ sym made_are

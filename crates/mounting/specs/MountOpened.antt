@@ -35,6 +35,7 @@ use Rattle.volume.specs.emptying.SameCopies.{general_new, general_by_lem}
 use Rattle.volume.specs.emptying.Carried.{emptied_by, carry_emptyings, on_drives_append, on_drives_present, on_drives_emptyings, made_by_roles}
 use Rattle.volume.specs.laws.EachBelow.{each_below_cong}
 use Rattle.mounting.specs.MountOpening.{opening_phases}
+use Rattle.volume.specs.looking.MovedLogs.{is_emptied, new_generation}
 
 -- a budget that is spent makes nothing
 pub made_spent : (g : Geometry) (ss : List Store) (t : Tables) → Made g 0 0 ss t t
@@ -85,9 +86,9 @@ module _ (g : Geometry) (first : g.logs ≡ 0) (a : ℕ → Bool) (r : ℕ → R
       (made_by_roles g first r proper budget rest (on_present a (spare_step g w)) t u (on_drives_present g a (spare_step g w) (spares_on_drives g w)) m)
 
   -- ---- step 2: the general logs of the drives e, whose new generations are one above the old ones
-  module _ (all : Emptyings) (from_is : all.from ≡ with_roles g r) (here_is : is_set all.here ≡ a) (to_is : all.to ≡ with_roles g (roles_after false (is_set all.emptied) r)) where
+  module _ (all : Emptyings) (from_is : all.from ≡ with_roles g r) (here_is : is_set all.here ≡ a) (to_is : all.to ≡ with_roles g (roles_after false (is_emptied all.emptied) r)) where
     abbrev e : ℕ → Bool
-    e = is_set all.emptied
+    e = is_emptied all.emptied
 
     same_from : SameShape g all.from
     same_from = rw from_is (relaid_shape g (logs_of r g.drives))
@@ -96,9 +97,9 @@ module _ (g : Geometry) (first : g.logs ≡ 0) (a : ℕ → Bool) (r : ℕ → R
     unfolding new_general
     new_general_by f k x d hs q = ap (λ (l : List Header). map (encode g d) l ++ (closing_sector g false d x ∷ [])) (general_by_lem g f k hs q)
 
-    module _ (gs xs ps : List ℕ) (f : InForce) (w : Device) (heads : (d : ℕ) → d < g.drives → is_set all.emptied d ≡ true → general_heads all.from (read_device all.from xs ps) d ≡ general_heads g w d)
-        (force : (z : ℕ) → z < g.zones → get_or gs z 0 ≡ f.generation z) (claims : (d : ℕ) → is_set all.emptied d ≡ true → get_or all.generations d 0 ≡ claim_of_kind false (r d)) where
-      one_general : (d : ℕ) → d < g.drives → (b : Bool) → is_set all.emptied d ≡ b
+    module _ (gs xs ps : List ℕ) (f : InForce) (w : Device) (heads : (d : ℕ) → d < g.drives → is_emptied all.emptied d ≡ true → general_heads all.from (read_device all.from xs ps) d ≡ general_heads g w d)
+        (force : (z : ℕ) → z < g.zones → get_or gs z 0 ≡ f.generation z) (claims : (d : ℕ) → is_emptied all.emptied d ≡ true → new_generation all.emptied d ≡ claim_of_kind false (r d)) where
+      one_general : (d : ℕ) → d < g.drives → (b : Bool) → is_emptied all.emptied d ≡ b
           → pick b (emptying_stores all.from (is_set all.here) d spare_zone (kind_of_log false) (with_closing (emptying_of all d) false (new_general_on all gs xs ps d))) [] ≡ pick b (emptying_stores g a d spare_zone (kind_of_log false) (new_general g f (r d) d (general_heads g w d))) []
       one_general d hd true q =
           let hs = general_heads all.from (read_device all.from xs ps) d in
@@ -109,14 +110,14 @@ module _ (g : Geometry) (first : g.logs ≡ 0) (a : ℕ → Bool) (r : ℕ → R
           ∙ ap (emptying_stores g a d spare_zone (kind_of_log false)) new
       one_general d hd false q = refl
 
-      pub general_made : (budget rest : ℕ) (t u : Tables) → Made all.to budget rest (each_below (λ d. emptied_on all false (new_general_on all gs xs ps d) d) all.from.drives) t u → Made g budget rest (empty_general g a r f (is_set all.emptied) w) t u
+      pub general_made : (budget rest : ℕ) (t u : Tables) → Made all.to budget rest (each_below (λ d. emptied_on all false (new_general_on all gs xs ps d) d) all.from.drives) t u → Made g budget rest (empty_general g a r f (is_emptied all.emptied) w) t u
       unfolding empty_general
       general_made budget rest t u m =
-          let r' = roles_after false (is_set all.emptied) r in
+          let r' = roles_after false (is_emptied all.emptied) r in
           let ss : ℕ → List (List ℕ) = λ d. new_general g f (r d) d (general_heads g w d) in
           let n : all.from.drives ≡ g.drives = ap (λ (h : Geometry). h.drives) from_is in
-          let same : each_below (λ d. emptied_on all false (new_general_on all gs xs ps d) d) all.from.drives ≡ emptied_by g a false (is_set all.emptied) ss g.drives =
-          ap (each_below (λ d. emptied_on all false (new_general_on all gs xs ps d) d)) n ∙ each_below_cong _ _ g.drives (λ d hd. one_general d hd (is_set all.emptied d) refl) in
-          let m' : Made (with_roles g r') budget rest (emptied_by g a false (is_set all.emptied) ss g.drives) t u = subst (λ (h : Geometry). Made h budget rest (emptied_by g a false (is_set all.emptied) ss g.drives) t u) to_is (subst (λ (l : List Store). Made all.to budget rest l t u) same m) in
-          subst (λ (l : List Store). Made g budget rest l t u) (carry_emptyings g a false r (is_set all.emptied) ss)
-          (made_by_roles g first r' (roles_after_proper false (is_set all.emptied) r proper) budget rest (emptied_by g a false (is_set all.emptied) ss g.drives) t u (on_drives_emptyings g a false (is_set all.emptied) ss g.drives (le_refl g.drives)) m')
+          let same : each_below (λ d. emptied_on all false (new_general_on all gs xs ps d) d) all.from.drives ≡ emptied_by g a false (is_emptied all.emptied) ss g.drives =
+          ap (each_below (λ d. emptied_on all false (new_general_on all gs xs ps d) d)) n ∙ each_below_cong _ _ g.drives (λ d hd. one_general d hd (is_emptied all.emptied d) refl) in
+          let m' : Made (with_roles g r') budget rest (emptied_by g a false (is_emptied all.emptied) ss g.drives) t u = subst (λ (h : Geometry). Made h budget rest (emptied_by g a false (is_emptied all.emptied) ss g.drives) t u) to_is (subst (λ (l : List Store). Made all.to budget rest l t u) same m) in
+          subst (λ (l : List Store). Made g budget rest l t u) (carry_emptyings g a false r (is_emptied all.emptied) ss)
+          (made_by_roles g first r' (roles_after_proper false (is_emptied all.emptied) r proper) budget rest (emptied_by g a false (is_emptied all.emptied) ss g.drives) t u (on_drives_emptyings g a false (is_emptied all.emptied) ss g.drives (le_refl g.drives)) m')

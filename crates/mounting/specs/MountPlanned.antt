@@ -1,6 +1,6 @@
 -- A mount's plan as the code makes it (src/plan.rt) is the plan of the rules: what refusals 1 to 6 leave, the look, and the room of both kinds of logs; and its
 -- refusal 14 is that of the rules.
-use Rattle.std.specs.Prelude.{◌≡◌, refl, ◌&&◌, ◌||◌, List, [], ◌∷◌, length, get_or, ltb}
+use Rattle.std.specs.Prelude.{◌≡◌, refl, ◌&&◌, ◌||◌, List, [], ◌∷◌, length, get_or, ltb, None, is_some}
 use Rattle.std.proofs.Math.Path.{sym, ap, ap₂, fun_ext}
 use Rattle.std.proofs.Common.{◌∙◌, subst, true≢false, arith}
 use Rattle.std.proofs.Math.Bool.{Bool, true, false, not}
@@ -34,7 +34,7 @@ use Rattle.volume.specs.looking.HiddenLogs.{places_of, roles_durable}
 use Rattle.volume.specs.looking.Knowing.{read_device}
 use Rattle.volume.specs.looking.SeenByRoles.{Seen, kind_lacks_on, seen_geometry, seen_zone, seen_read, seen_lacks}
 use Rattle.volume.specs.looking.Looking.{shaped, shaped_durable, log_number, looks_from, look_of, labels_read, shown_read}
-use Rattle.volume.specs.checks.LogRoom.{size_agree, SeenByRoles, drive_room_of, room_of, general_room_at, parity_room_at, either, placed_valid, placed_zones, room_is, rooms_full, rooms_emptied, rooms_stay, rooms_generation}
+use Rattle.volume.specs.checks.LogRoom.{size_agree, SeenByRoles, drive_room_of, emptied_in, room_of, general_room_at, parity_room_at, either, placed_valid, placed_zones, room_is, rooms_full, rooms_emptied, rooms_stay, rooms_generation}
 use Rattle.volume.specs.emptying.GeneralCopies.{by_generations}
 use Rattle.volume.specs.emptying.ParityCopies.{by_pointers, PointersWithin}
 use Rattle.volume.specs.storing.ResetZone.{size_seen}
@@ -43,6 +43,7 @@ use Rattle.volume.specs.checks.Records.{zone_look, generations_shown, points_sho
 use Rattle.mounting.specs.MountStart.{look_of_zone, look_within}
 use Rattle.mounting.specs.MountRooms.{lost_among, Rooms, Planned}
 use Rattle.mounting.specs.MountPlan.{Passed, Planning, PlanMade}
+use Rattle.volume.specs.looking.MovedLogs.{is_emptied}
 
 -- ---- as the code goes
 abbrev pub mount_asked : Geometry → Survey → Bool → ℕ → RoomAsked
@@ -210,19 +211,19 @@ module _ (g : Geometry) (named : List Bool) (xs ws ds : List ℕ) (v : Survey) (
       absent d n true e = absurd (omega (arith, n, (present_named d e).0))
       absent d n false e = refl
 
-      at : (d : ℕ) → Dec (d < g.drives) → is_set (room_of f g.drives).emptied d ≡ emptied_for g here par r w limit d
+      at : (d : ℕ) → Dec (d < g.drives) → is_emptied (room_of f g.drives).emptied d ≡ emptied_for g here par r w limit d
       at d (yes hd) = rooms_emptied f g.drives (emptied_for g here par r w limit) (stays par limit size) (λ i. claim_of_kind par (r i)) are d hd
-      at d (no n) = fill_past (λ e. (f e).lacks) false g.drives (max_drives - g.drives) d (omega arith) ∙ sym (absent d (omega arith) (here d) refl)
+      at d (no n) = ap is_some (fill_past (λ e. emptied_in (f e)) None g.drives (max_drives - g.drives) d (omega arith)) ∙ sym (absent d (omega arith) (here d) refl)
 
-      same : is_set (room_of f g.drives).emptied ≡ emptied_for g here par r w limit
+      same : is_emptied (room_of f g.drives).emptied ≡ emptied_for g here par r w limit
       same = fun_ext λ d. at d (dec_lt d g.drives)
 
-      below : (d : ℕ) → is_set (room_of f g.drives).emptied d ≡ true → d < g.drives
+      below : (d : ℕ) → is_emptied (room_of f g.drives).emptied d ≡ true → d < g.drives
       below d e = go (dec_lt d g.drives)
         where
           go : Dec (d < g.drives) → d < g.drives
           go (yes hd) = hd
-          go (no n) = absurd (true≢false (sym e ∙ fill_past (λ i. (f i).lacks) false g.drives (max_drives - g.drives) d (omega arith)))
+          go (no n) = absurd (true≢false (sym e ∙ ap is_some (fill_past (λ i. emptied_in (f i)) None g.drives (max_drives - g.drives) d (omega arith))))
 
   -- ---- refusal 14
   full_is : (plan_by g v xs ws ps).general.full || (plan_by g v xs ws ps).parity.full ≡ mount_full g here r (by_look shown) w

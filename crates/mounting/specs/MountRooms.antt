@@ -1,5 +1,5 @@
 -- The room of the logs in a mount (src/rooms.rt): what its steps 1, 2 and 10 go by.
-use Rattle.std.specs.Prelude.{◌≡◌, refl, Bool, true, false, not, ℕ, ◌<◌, ◌≤◌, List, [], ◌∷◌, length, get_or, ltb}
+use Rattle.std.specs.Prelude.{◌≡◌, refl, Bool, true, false, not, ℕ, ◌<◌, ◌≤◌, List, [], ◌∷◌, length, get_or, ltb, Option}
 use Rattle.tables.specs.declared.Geometry.{Geometry}
 use Rattle.tables.specs.meaning.Basics.{pick}
 use Rattle.tables.specs.meaning.Below.{each_below}
@@ -23,7 +23,7 @@ use Rattle.volume.specs.meaning.Mount.{spare_step, counters_differ}
 use Rattle.volume.specs.laws.LogPlaces.{with_logs}
 use Rattle.volume.specs.looking.DriveLogs.{zone_pointer}
 use Rattle.volume.specs.looking.HiddenLogs.{places_of, hidden_logs}
-use Rattle.volume.specs.looking.MovedLogs.{moved_logs}
+use Rattle.volume.specs.looking.MovedLogs.{is_emptied, new_generation, moved_logs}
 use Rattle.volume.specs.looking.Looking.{look_of}
 use Rattle.volume.specs.laws.EachBelow.{each_below_cong}
 use Rattle.mounting.specs.MountTables.{FlushedAfter}
@@ -49,9 +49,9 @@ unfolding spare_step
 spare_resets_lem g ps w e = each_below_cong _ _ g.drives (λ d h. rw (e d h) refl)
 
 -- ---- the places of the logs after those of a kind were emptied
-abbrev pub places_after : LogPlaces → Bool → List Bool → LogPlaces
+abbrev pub places_after : LogPlaces → Bool → List (Option ℕ) → LogPlaces
 places_after p par emptied = record {
-  geometry = with_logs p.geometry (moved_logs p.geometry par (is_set emptied) p.geometry.drives);
+  geometry = with_logs p.geometry (moved_logs p.geometry par (is_emptied emptied) p.geometry.drives);
   no_general = p.no_general;
   no_parity = p.no_parity;
 }
@@ -62,9 +62,9 @@ lost_among g here = find_below (λ (d : ℕ). not (is_set here d)) g.drives
 
 -- ---- the room of the logs of a kind: which are emptied, the generations of the new ones, and that they get room (size: of the new logs)
 pub record Rooms (g : Geometry) (present : ℕ → Bool) (par : Bool) (limit : ℕ) (size : ℕ → ℕ) (r : ℕ → Roles) (w : Device) (x : LogRoom) : Type 0 where
-  pub emptied_are : is_set x.emptied ≡ emptied_for g present par r w limit
-  pub generations_are : (d : ℕ) → is_set x.emptied d ≡ true → get_or x.generations d 0 ≡ claim_of_kind par (r d)
-  pub roomy : (d : ℕ) → is_set x.emptied d ≡ true → stays_full g par r limit (size d) d ≡ false
+  pub emptied_are : is_emptied x.emptied ≡ emptied_for g present par r w limit
+  pub generations_are : (d : ℕ) → is_emptied x.emptied d ≡ true → new_generation x.emptied d ≡ claim_of_kind par (r d)
+  pub roomy : (d : ℕ) → is_emptied x.emptied d ≡ true → stays_full g par r limit (size d) d ≡ false
 
 -- ---- WHAT A MOUNT BEGINS WITH: tables t that no refusal stopped, what was found in them, and their written pointers without those of logs that lack
 pub record Planned (g : Geometry) (t : Tables) (p : Plan) (ps : List ℕ) : Type 0 where

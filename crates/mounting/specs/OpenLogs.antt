@@ -36,7 +36,7 @@ use Rattle.volume.specs.laws.MountLogsFit.{flushes_fit, spares_fit_at}
 use Rattle.volume.specs.looking.DriveLogs.{zone_pointer, zone_sectors_lem}
 use Rattle.volume.specs.looking.Knowing.{read_device}
 use Rattle.volume.specs.looking.HiddenLogs.{places_of, hidden_logs, hidden_all_long}
-use Rattle.volume.specs.looking.MovedLogs.{moved_logs, moved_by_roles}
+use Rattle.volume.specs.looking.MovedLogs.{is_emptied, moved_logs, moved_by_roles}
 use Rattle.volume.specs.emptying.Carried.{new_place}
 use Rattle.volume.specs.emptying.Emptyings.{EmptyingReady, emptied_on, new_general_on}
 use Rattle.volume.specs.emptying.RoomMoves.{hidden_least}
@@ -76,7 +76,7 @@ module _ (g : Geometry) (ok : Valid g) (p : Plan) (xs ws ds ps : List ℕ) (k : 
   r = roles_of g (tables_of xs ws ds)
 
   abbrev e : ℕ → Bool
-  e = is_set p.general.emptied
+  e = is_emptied p.general.emptied
 
   abbrev from : Geometry
   from = p.places.geometry
@@ -130,14 +130,13 @@ module _ (g : Geometry) (ok : Valid g) (p : Plan) (xs ws ds ps : List ℕ) (k : 
   abbrev pub opened_all : Emptyings
   opened_all = record {
     from = p.places.geometry;
-    to = with_logs p.places.geometry (moved_logs p.places.geometry false (is_set p.general.emptied) p.places.geometry.drives);
+    to = with_logs p.places.geometry (moved_logs p.places.geometry false (is_emptied p.general.emptied) p.places.geometry.drives);
     here = p.here;
     emptied = p.general.emptied;
-    generations = p.general.generations;
   }
 
   to_is : opened_all.to ≡ with_roles g (roles_after false e r)
-  to_is = ap (λ (h : Geometry). with_logs h (moved_logs h false (is_set p.general.emptied) h.drives)) from_is ∙ moved_by_roles g r proper false e
+  to_is = ap (λ (h : Geometry). with_logs h (moved_logs h false (is_emptied p.general.emptied) h.drives)) from_is ∙ moved_by_roles g r proper false e
 
   moved_place : (d : ℕ) → d < g.drives → e d ≡ true → zone_place opened_all.to d (kind_of_log false) ≡ zone_place from d spare_zone
   moved_place d hd q =
@@ -171,7 +170,7 @@ module _ (g : Geometry) (ok : Valid g) (p : Plan) (xs ws ds ps : List ℕ) (k : 
   -- their emptying, and the flush after it
   general_stored : (us fs qs : List ℕ) → length us ≡ cells g → qs ≡ hidden_logs p.places us p.places.geometry.drives → device_of g (tables_of xs us fs) ≡ stage g (is_set p.here) (device_of g (tables_of xs ws ds))
       → (n m : ℕ) (t₃ : Tables) → Made opened_all.to n m (each_below (λ d. emptied_on opened_all false (new_general_on opened_all (generations_shown p.look) xs qs d) d) p.places.geometry.drives) (tables_of xs us fs) t₃
-      → Made g n m (on_present (is_set p.here) (empty_general g (is_set p.here) (roles_of g (tables_of xs ws ds)) (by_look (showing g (is_set p.here) (lost_among g p.here) (seen_in g (tables_of xs ws ds)))) (is_set p.general.emptied) (seen_in g (tables_of xs ws ds)))) (tables_of xs us fs) t₃
+      → Made g n m (on_present (is_set p.here) (empty_general g (is_set p.here) (roles_of g (tables_of xs ws ds)) (by_look (showing g (is_set p.here) (lost_among g p.here) (seen_in g (tables_of xs ws ds)))) (is_emptied p.general.emptied) (seen_in g (tables_of xs ws ds)))) (tables_of xs us fs) t₃
   general_stored us fs qs lu q there n m t₃ made =
       let f = by_look (showing g a (lost_among g p.here) (seen_in g t)) in
       subst (λ (ss : List Store). Made g n m ss (tables_of xs us fs) t₃) (sym (general_present g a r f e (seen_in g t) (general_here g t p ps k)))

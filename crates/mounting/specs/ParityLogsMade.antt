@@ -35,6 +35,7 @@ use Rattle.mounting.specs.MountBefore.{places_after_lem, middle_read}
 use Rattle.mounting.specs.MountJoined.{parity_phases_lem, parity_flushed, parity_present}
 use Rattle.mounting.specs.MountEnds.{end_places, parity_emptyings, ParityStepMade}
 use Rattle.mounting.specs.PlannedPlaces.{HasKinds, kinds_after, parity_here, kinds_here, middle_of, middle_proper, middle_is, middle_geometry_lem}
+use Rattle.volume.specs.looking.MovedLogs.{is_emptied, new_generation}
 
 -- a drive that lacks no kind is seen where its roles place its zones
 seen_through : (q : Roles) (zs : ℕ → ZoneView) (y : ℕ) → HasKinds q → seen_as q zs y ≡ zs (zone_of_role q y)
@@ -71,22 +72,22 @@ module _ (g : Geometry) (t : Tables) (p : Plan) (start : List ℕ) (k : Planned 
   middle = middle_of g t p start k
 
   abbrev pub end_of : ℕ → Roles
-  end_of = roles_after true (is_set p.parity.emptied) (middle_of g t p start k)
+  end_of = roles_after true (is_emptied p.parity.emptied) (middle_of g t p start k)
 
   proper : (d : ℕ) → Proper (middle d)
   proper = middle_proper g t p start k
 
   pub end_proper : (d : ℕ) → Proper (end_of d)
-  end_proper = roles_after_proper true (is_set p.parity.emptied) middle proper
+  end_proper = roles_after_proper true (is_emptied p.parity.emptied) middle proper
 
-  emptied_in_lem : (d : ℕ) → is_set p.parity.emptied d ≡ true → is_set p.here d ≡ true
+  emptied_in_lem : (d : ℕ) → is_emptied p.parity.emptied d ≡ true → is_set p.here d ≡ true
   emptied_in_lem = parity_here g t p start k
 
   middle_kinds : (d : ℕ) → is_set p.here d ≡ true → HasKinds (middle d)
-  middle_kinds d h = kinds_after false (is_set p.general.emptied d) (r d) (kinds_here g t p start k d h)
+  middle_kinds d h = kinds_after false (is_emptied p.general.emptied d) (r d) (kinds_here g t p start k d h)
 
   pub end_kinds : (d : ℕ) → is_set p.here d ≡ true → HasKinds (end_of d)
-  end_kinds d h = kinds_after true (is_set p.parity.emptied d) (middle d) (middle_kinds d h)
+  end_kinds d h = kinds_after true (is_emptied p.parity.emptied d) (middle d) (middle_kinds d h)
 
   -- AS THE CODE HAS THEM
   pub end_is : end_places p ≡ places_of g end_of
@@ -105,16 +106,16 @@ module _ (g : Geometry) (t : Tables) (p : Plan) (start : List ℕ) (k : Planned 
   zones_are = ap (λ (h : Geometry). h.zones) from_is
 
   -- a new parity log lies where the spare lay
-  moved_place : (d : ℕ) → d < g.drives → is_set p.parity.emptied d ≡ true → zone_place (end_places p).geometry d parity_zone ≡ zone_place (middle_places p).geometry d spare_zone
+  moved_place : (d : ℕ) → d < g.drives → is_emptied p.parity.emptied d ≡ true → zone_place (end_places p).geometry d parity_zone ≡ zone_place (middle_places p).geometry d spare_zone
   moved_place d hd q =
-      ap (λ (h : Geometry). zone_place h d parity_zone) to_is ∙ zone_by_role g end_of end_proper d hd parity_zone ∙ new_place g a true middle (is_set p.parity.emptied) (λ n. []) d q
+      ap (λ (h : Geometry). zone_place h d parity_zone) to_is ∙ zone_by_role g end_of end_proper d hd parity_zone ∙ new_place g a true middle (is_emptied p.parity.emptied) (λ n. []) d q
       ∙ sym (ap (λ (h : Geometry). zone_place h d spare_zone) from_is ∙ zone_by_role g middle proper d hd spare_zone)
 
   -- the others where they were
-  log_cell : (d : ℕ) → d < g.drives → cell (end_places p).geometry d parity_zone ≡ cell (middle_places p).geometry d (pick (is_set p.parity.emptied d) spare_zone parity_zone)
+  log_cell : (d : ℕ) → d < g.drives → cell (end_places p).geometry d parity_zone ≡ cell (middle_places p).geometry d (pick (is_emptied p.parity.emptied d) spare_zone parity_zone)
   log_cell d hd =
-      ap (λ (h : Geometry). cell h d parity_zone) to_is ∙ cell_by_role g k.first end_of end_proper d parity_zone hd ∙ ap (cell g d) (go (is_set p.parity.emptied d))
-      ∙ sym (ap (λ (h : Geometry). cell h d (pick (is_set p.parity.emptied d) spare_zone parity_zone)) from_is ∙ cell_by_role g k.first middle proper d (pick (is_set p.parity.emptied d) spare_zone parity_zone) hd)
+      ap (λ (h : Geometry). cell h d parity_zone) to_is ∙ cell_by_role g k.first end_of end_proper d parity_zone hd ∙ ap (cell g d) (go (is_emptied p.parity.emptied d))
+      ∙ sym (ap (λ (h : Geometry). cell h d (pick (is_emptied p.parity.emptied d) spare_zone parity_zone)) from_is ∙ cell_by_role g k.first middle proper d (pick (is_emptied p.parity.emptied d) spare_zone parity_zone) hd)
     where
       go : (b : Bool) → zone_of_role (pick b (emptied_roles true (middle d)) (middle d)) parity_zone ≡ zone_of_role (middle d) (pick b spare_zone parity_zone)
       go true = refl
@@ -136,7 +137,7 @@ module _ (g : Geometry) (t : Tables) (p : Plan) (start : List ℕ) (k : Planned 
     small z h = omega (arith, h, zones_are, ok.zones_most)
 
     logs_least : (d y : ℕ) → d < h1.drives → eqb y parity_zone ≡ true → get_or ps (cell (end_places p).geometry d y) 0 ≤ get_or u.written (cell (end_places p).geometry d y) 0
-    logs_least d y hd q = rw (eqb-true y parity_zone q, log_cell d (rw drives_are at hd)) (log_behind d (pick (is_set p.parity.emptied d) spare_zone parity_zone) hd (go (is_set p.parity.emptied d)))
+    logs_least d y hd q = rw (eqb-true y parity_zone q, log_cell d (rw drives_are at hd)) (log_behind d (pick (is_emptied p.parity.emptied d) spare_zone parity_zone) hd (go (is_emptied p.parity.emptied d)))
       where
         go : (c : Bool) → pick c spare_zone parity_zone < 3
         go true = omega arith
@@ -177,7 +178,7 @@ module _ (g : Geometry) (t : Tables) (p : Plan) (start : List ℕ) (k : Planned 
     abbrev shown : Shown
     shown = showing g a (lost_among g p.here) (seen_in g t)
 
-    entries : (d : ℕ) → is_set p.parity.emptied d ≡ true → parity_entries h1 (read_device h1 u.sectors starts_of) d ≡ parity_entries g (through (placed_by middle) (device_of g u)) d
+    entries : (d : ℕ) → is_emptied p.parity.emptied d ≡ true → parity_entries h1 (read_device h1 u.sectors starts_of) d ≡ parity_entries g (through (placed_by middle) (device_of g u)) d
     entries d q =
         let v = read_device (with_roles g middle) u.sectors (hidden_logs (places_of g middle) u.written g.drives) in
         let w = through (placed_by middle) (device_of g u) in
@@ -193,8 +194,8 @@ module _ (g : Geometry) (t : Tables) (p : Plan) (start : List ℕ) (k : Planned 
         let n = generations_shown_at p.look z low in
         (n ∙ ap (λ (x : ZoneShown). x.generation) s, points_shown_at p.look z low ∙ ap (λ (x : ZoneShown). x.pointer) s, ap (value_at h1 a (read_device h1 u.sectors ps) z) n ∙ ap (λ (x : ZoneShown). x.value) s)
 
-    claims : (d : ℕ) → is_set p.parity.emptied d ≡ true → get_or p.parity.generations d 0 ≡ claim_of_kind true (middle d)
-    claims d q = k.parity.generations_are d q ∙ go (is_set p.general.emptied d)
+    claims : (d : ℕ) → is_emptied p.parity.emptied d ≡ true → new_generation p.parity.emptied d ≡ claim_of_kind true (middle d)
+    claims d q = k.parity.generations_are d q ∙ go (is_emptied p.general.emptied d)
       where
         go : (c : Bool) → (r d).parity_claim ≡ (pick c (emptied_roles false (r d)) (r d)).parity_claim
         go true = refl
@@ -208,5 +209,5 @@ module _ (g : Geometry) (t : Tables) (p : Plan) (start : List ℕ) (k : Planned 
         let qs = points_shown p.look in
         let w = through (placed_by middle) (device_of g u) in
         let on = parity_present g k.first a middle proper all from_is refl to_is gs qs u.sectors ps starts_of (by_look shown) w (λ d hd q. entries d q) force claims emptied_in_lem in
-        subst (λ (l : List (List Store)). Made g mid rest (concat l) u v) (sym (parity_phases_lem g a (lost_among g p.here) t (is_set p.general.emptied) (is_set p.parity.emptied) k.general.emptied_are k.parity.emptied_are (device_of g u)))
+        subst (λ (l : List (List Store)). Made g mid rest (concat l) u v) (sym (parity_phases_lem g a (lost_among g p.here) t (is_emptied p.general.emptied) (is_emptied p.parity.emptied) k.general.emptied_are k.parity.emptied_are (device_of g u)))
         (parity_flushed g k.first a middle proper all from_is refl to_is gs qs u.sectors ps starts_of (by_look shown) w (λ d hd q. entries d q) force claims mid rest u v (s.made on))

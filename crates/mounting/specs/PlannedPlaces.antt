@@ -18,6 +18,7 @@ use Rattle.volume.specs.looking.HiddenLogs.{places_of, hidden_all_long}
 use Rattle.mounting.specs.MountRooms.{places_after, Rooms, Planned}
 use Rattle.mounting.specs.MountBefore.{places_after_lem}
 use Rattle.mounting.specs.MountBetween.{middle_places, middle_geometry}
+use Rattle.volume.specs.looking.MovedLogs.{is_emptied}
 
 -- ---- a drive that lacks no kind
 abbrev pub HasKinds : Roles → Type 0
@@ -31,13 +32,13 @@ kinds_after par false q h = h
 
 module _ (g : Geometry) (t : Tables) (p : Plan) (ps : List ℕ) (k : Planned g t p ps) where
   -- emptied drives are present
-  room_here : (par : Bool) (limit : ℕ) (size : ℕ → ℕ) (x : LogRoom) → Rooms g (is_set p.here) par limit size (roles_of g t) (seen_in g t) x → (d : ℕ) → is_set x.emptied d ≡ true → is_set p.here d ≡ true
+  room_here : (par : Bool) (limit : ℕ) (size : ℕ → ℕ) (x : LogRoom) → Rooms g (is_set p.here) par limit size (roles_of g t) (seen_in g t) x → (d : ℕ) → is_emptied x.emptied d ≡ true → is_set p.here d ≡ true
   room_here par limit size x m d q = emptied_here g (is_set p.here) (roles_of g t) (seen_in g t) par limit d (sym (ap (λ (b : ℕ → Bool). b d) m.emptied_are) ∙ q)
 
-  pub general_here : (d : ℕ) → is_set p.general.emptied d ≡ true → is_set p.here d ≡ true
+  pub general_here : (d : ℕ) → is_emptied p.general.emptied d ≡ true → is_set p.here d ≡ true
   general_here = room_here false _ _ p.general k.general
 
-  pub parity_here : (d : ℕ) → is_set p.parity.emptied d ≡ true → is_set p.here d ≡ true
+  pub parity_here : (d : ℕ) → is_emptied p.parity.emptied d ≡ true → is_set p.here d ≡ true
   parity_here = room_here true _ _ p.parity k.parity
 
   -- present drives lack no kind
@@ -54,10 +55,10 @@ module _ (g : Geometry) (t : Tables) (p : Plan) (ps : List ℕ) (k : Planned g t
 
   -- ---- once general logs are emptied
   abbrev pub middle_of : ℕ → Roles
-  middle_of = roles_after false (is_set p.general.emptied) (roles_of g t)
+  middle_of = roles_after false (is_emptied p.general.emptied) (roles_of g t)
 
   pub middle_proper : (d : ℕ) → Proper (middle_of d)
-  middle_proper = roles_after_proper false (is_set p.general.emptied) (roles_of g t) (roles_proper g (device_of g t))
+  middle_proper = roles_after_proper false (is_emptied p.general.emptied) (roles_of g t) (roles_proper g (device_of g t))
 
   pub middle_is : middle_places p ≡ places_of g middle_of
   middle_is =

@@ -37,6 +37,7 @@ use Rattle.mounting.specs.MountMiddle.{middle_look, middle_shown, middle_steps, 
 use Rattle.mounting.specs.MountBetween.{middle_places, middle_geometry, Before}
 use Rattle.mounting.specs.PlannedPlaces as places
 use Rattle.mounting.specs.PlannedPlaces.{middle_proper, middle_is, middle_geometry_lem}
+use Rattle.volume.specs.looking.MovedLogs.{is_emptied}
 
 -- a look's numbers do not speak of where logs lie
 look_alike : (g : Geometry) (n : ℕ) (s : Shown) → look_of (with_logs g n) s ≡ look_of g s
@@ -51,11 +52,11 @@ module _ (g : Geometry) (ok : Valid g) (t : Tables) (p : Plan) (qs : List ℕ) (
   x = lost_among g p.here
 
   abbrev e : ℕ → Bool
-  e = is_set p.general.emptied
+  e = is_emptied p.general.emptied
 
   -- the roles after step 2
   abbrev r1 : ℕ → Roles
-  r1 = roles_after false (is_set p.general.emptied) (roles_of g t)
+  r1 = roles_after false (is_emptied p.general.emptied) (roles_of g t)
 
   proper : (d : ℕ) → Proper (r1 d)
   proper = middle_proper g t p qs k

@@ -94,10 +94,8 @@ pub fn course_of(plan: Plan) -> Course
     let look = plan.look;
     let first = plan.places.geometry;
     let moved = plan.general.emptied;
-    let closing = plan.general.generations;
     let middle = super::rooms::places_after(plan.places, false, moved);
     let emptied = plan.parity.emptied;
-    let generations = plan.parity.generations;
     let end = super::rooms::places_after(middle, true, emptied);
     let geometry = middle.geometry;
     let to = end.geometry;
@@ -109,14 +107,12 @@ pub fn course_of(plan: Plan) -> Course
             to: geometry,
             here,
             emptied: moved,
-            generations: closing,
         },
         parity: Emptyings {
             from: geometry,
             to,
             here,
             emptied,
-            generations,
         },
         basis: Basis {
             geometry,

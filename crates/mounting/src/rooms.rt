@@ -60,7 +60,11 @@ pub struct Plan {
 }
 
 // Where the logs lie after those of a kind were emptied on some drives. None of these drives lacks a kind.
-pub fn places_after(places: LogPlaces, parity: bool, emptied: [bool; MAX_DRIVES]) -> LogPlaces
+pub fn places_after(
+    places: LogPlaces,
+    parity: bool,
+    emptied: [Option<u64>; MAX_DRIVES],
+) -> LogPlaces
     requires { Valid places.geometry }
     ensures { result ≡ places_after places parity emptied }
 {

@@ -6,7 +6,7 @@
 ghost use Rattle.std.specs.Prelude.{◌≡◌, length};
 
 use replaying::{Command, Host, Reply};
-use std::io;
+use std::{fmt, io};
 use volume::{BadPlace, State};
 
 // Space for the script.
@@ -23,113 +23,51 @@ fn sector_space() -> [u8; 524288]
     [0; 524288]
 }
 
-// Bytes of the answer line.
-fn text(rt: &impl Print, s: &[u8]) -> io::Result<()> {
-    rt.write_all(s)
-}
-
-// A decimal number of the answer line.
-fn number(rt: &impl Print, n: u64) -> io::Result<()> {
-    rt.print(n)
-}
-
-// A space and a number.
-fn field(rt: &impl Print, n: u64) -> io::Result<()> {
-    text(rt, b" ")?;
-    number(rt, n)
-}
-
-// A number of 32 bits of the answer line.
-fn word(rt: &impl Print, n: u32) -> io::Result<()> {
-    number(rt, n as u64)
-}
-
-// One zone's record: generation, condition, pointer, owner.
-fn show_record(rt: &impl Print, s: State, owners: [u32; 16], z: usize) -> io::Result<()> {
-    if 16 <= z {
-        return Ok(());
-    }
-    let r = s.zones[z];
-    let c = r.condition;
-    let p = volume::records::pointer_of(c);
-    field(rt, r.generation)?;
-    text(rt, b":")?;
-    number(rt, volume::numbers::condition_number(c) as u64)?;
-    text(rt, b":")?;
-    number(rt, p as u64)?;
-    text(rt, b":")?;
-    word(rt, owners[z])
-}
-
-// What is left of the hosts' shares of one drive.
-fn show_share(rt: &impl Print, s: State, d: usize) -> io::Result<()> {
-    if 8 <= d {
-        return Ok(());
-    }
-    let shares = s.shares;
-    text(rt, b" ")?;
-    word(rt, shares[d * volume::HOSTS])?;
-    text(rt, b"/")?;
-    word(rt, shares[d * volume::HOSTS + 1])
-}
-
-// The shares of so many drives.
-fn show_shares(rt: &impl Print, s: State, drives: usize) -> io::Result<()> {
-    for d in 0..drives {
-        show_share(rt, s, d)?;
-    }
-    Ok(())
-}
-
-// A state: the lost drive, then the zones' records, then the drives' shares.
-fn show_state(
-    rt: &impl Print,
-    s: State,
+// A state, as a line shows it: the lost drive, then the records of so many zones, then the shares of so many drives.
+#[derive(Clone, Copy)]
+struct Shown {
+    state: State,
     owners: [u32; 16],
     zones: usize,
     drives: usize,
-) -> io::Result<()> {
-    text(rt, b" lost")?;
-    field(rt, s.lost as u64)?;
-    for z in 0..zones {
-        show_record(rt, s, owners, z)?;
+}
+
+impl fmt::Display for Shown {
+    fn fmt<W: fmt::Write>(&self, f: &mut fmt::Formatter<W>) -> fmt::Result {
+        write!(f, " lost {}", self.state.lost)?;
+        for (record, owner) in self.state.zones.iter().zip(&self.owners).take(self.zones) {
+            let condition = volume::numbers::condition_number(record.condition);
+            let pointer = volume::records::pointer_of(record.condition);
+            write!(f, " {}:{condition}:{pointer}:{owner}", record.generation)?;
+        }
+        for shares in self
+            .state
+            .shares
+            .chunks_exact(volume::HOSTS)
+            .take(self.drives)
+        {
+            write!(f, " {}/{}", shares[0], shares[1])?;
+        }
+        Ok(())
     }
-    show_shares(rt, s, drives)
 }
 
 // What the line says of the host's state: none, the state after a call that may change it, else that it is the same.
 fn show_kept(rt: &impl Print, h: Host, letter: u8) -> io::Result<()> {
-    let s = h.state;
-    let owners = h.owners;
     if !h.held {
-        return text(rt, b" none");
+        return print!(rt; " none");
     }
-    let changes = replaying::showing::may_keep(letter);
-    if changes {
-        return show_state(rt, s, owners, h.zones, h.drives);
+    if !replaying::showing::may_keep(letter) {
+        return print!(rt; " same");
     }
-    text(rt, b" same")
-}
-
-// A zone read whole, as its checksum or the refusal.
-fn show_zone(
-    rt: &impl Print,
-    space: &[u8],
-    written: &[u32],
-    durable: &[u32],
-    buffer: &mut [u8],
-    r: Reply,
-    c: Command,
-    z: usize,
-) -> io::Result<()> {
-    let h = r.host;
-    let shown = r.shown;
-    let g = replaying::showing::read_zone(space, written, durable, buffer, h, c, shown, z);
-    if g.code == 0 {
-        return field(rt, g.sum);
-    }
-    text(rt, b" r")?;
-    number(rt, g.code as u64)
+    let owners = h.owners;
+    let kept = Shown {
+        state: h.state,
+        owners,
+        zones: h.zones,
+        drives: h.drives,
+    };
+    print!(rt; "{kept}")
 }
 
 // What a look shows: the state, then each zone read.
@@ -143,14 +81,18 @@ fn show_look(
     c: Command,
 ) -> io::Result<()> {
     let h = r.host;
-    let shown = r.shown;
-    let g = h.geometry;
-    let zones = replaying::hosting::lend(g.zones, 0, 16);
-    let drives = replaying::hosting::lend(g.drives, 0, 8);
-    let owners = replaying::forming::owners_of(shown);
-    show_state(rt, shown, owners, zones, drives)?;
+    let state = r.shown;
+    let zones = h.geometry.zones.min(16);
+    let shown = Shown {
+        state,
+        owners: replaying::forming::owners_of(state),
+        zones,
+        drives: h.geometry.drives.min(8),
+    };
+    print!(rt; "{shown}")?;
     for z in 0..zones {
-        show_zone(rt, space, written, durable, buffer, r, c, z)?;
+        let zone = replaying::showing::read_zone(space, written, durable, buffer, h, c, state, z);
+        print!(rt; " {zone}")?;
     }
     Ok(())
 }
@@ -160,10 +102,7 @@ fn show_place(rt: &impl Print, b: BadPlace) -> io::Result<()> {
     if b.number == 0 {
         return Ok(());
     }
-    text(rt, b" at")?;
-    field(rt, b.drive as u64)?;
-    field(rt, b.zone as u64)?;
-    field(rt, b.sector as u64)
+    print!(rt; " at {} {} {}", b.drive, b.zone, b.sector)
 }
 
 // What a finished look, read, peek or report adds to the line, and a refusal for a log.
@@ -178,28 +117,28 @@ fn show_rest(
     c: Command,
 ) -> io::Result<()> {
     let h = r.host;
-    let letter = c.letter;
     if r.code != 0 {
         return show_place(rt, r.place);
     }
-    if letter == b'l' {
-        return show_look(rt, space, written, durable, buffer, r, c);
+    match c.letter {
+        b'l' => show_look(rt, space, written, durable, buffer, r, c),
+        b'd' => {
+            let sum = replaying::showing::read_sum(buffer, h, c);
+            print!(rt; " {sum}")
+        }
+        b'p' => {
+            let place = replaying::showing::peek_place(places, written, durable, h, c);
+            let sum = replaying::showing::peek_sum(space, written, durable, h, c);
+            print!(rt; " {place} {sum}")
+        }
+        b'o' => {
+            let listed = replaying::listing::listed(h, c);
+            let filled = replaying::listing::report_filled(listed);
+            let sum = replaying::listing::list_sum(listed, c);
+            print!(rt; " {filled} {sum}")
+        }
+        _ => Ok(()),
     }
-    if letter == b'd' {
-        return field(rt, replaying::showing::read_sum(buffer, h, c));
-    }
-    if letter == b'p' {
-        let place = replaying::showing::peek_place(places, written, durable, h, c);
-        let sum = replaying::showing::peek_sum(space, written, durable, h, c);
-        field(rt, place)?;
-        return field(rt, sum);
-    }
-    if letter == b'o' {
-        let l = replaying::listing::listed(h, c);
-        field(rt, replaying::listing::report_filled(l))?;
-        return field(rt, replaying::listing::list_sum(l, c));
-    }
-    Ok(())
 }
 
 // The answer line.
@@ -213,23 +152,24 @@ fn show(
     r: Reply,
     c: Command,
 ) -> io::Result<()> {
-    let letter = [c.letter];
     let h = r.host;
-    text(rt, &letter)?;
-    field(rt, r.code as u64)?;
-    field(rt, replaying::showing::sectors_sum(space, h))?;
-    field(rt, replaying::showing::pointers_sum(written, durable, h))?;
+    let sectors = replaying::showing::sectors_sum(space, h);
+    let pointers = replaying::showing::pointers_sum(written, durable, h);
+    // as a byte, since it need not be a character
+    rt.write_all(&[c.letter])?;
+    print!(rt; " {} {sectors} {pointers}", r.code)?;
     show_kept(rt, h, c.letter)?;
     show_rest(rt, space, written, durable, buffer, places, r, c)?;
-    text(rt, b"\n")
+    println!(rt)
 }
 
 // The host after an answer: its shortage is over unless it was just announced.
 fn answered(h: Host, letter: u8) -> Host {
     if letter == b'n' {
-        return h;
+        h
+    } else {
+        replaying::hosting::without_shortage(h)
     }
-    replaying::hosting::without_shortage(h)
 }
 
 // One command: carried out and answered.
@@ -245,8 +185,7 @@ fn step(
 ) -> io::Result<Host> {
     let r = replaying::performing::perform(space, written, durable, buffer, h, c);
     show(rt, space, written, durable, buffer, places, r, c)?;
-    let t = r.host;
-    Ok(answered(t, c.letter))
+    Ok(answered(r.host, c.letter))
 }
 
 // The script, line after line.
@@ -259,13 +198,12 @@ fn replay(
     buffer: &mut [u8],
     places: &[u8],
 ) -> io::Result<()> {
-    let n = script.len();
     let mut h = replaying::hosting::first_host();
-    let mut at = 0;
-    while at < n {
-        let c = replaying::parsing::command_at(script, at);
+    let mut rest = script;
+    // kept: where the next command begins is known only from this one, so there is no range to go over.
+    while let Some((c, after)) = replaying::parsing::command_at(rest) {
         h = step(rt, space, written, durable, buffer, places, h, c)?;
-        at = c.next;
+        rest = after;
     }
     Ok(())
 }

@@ -4,50 +4,38 @@ use volume::{Answer, BadPlace, Outcome};
 
 // A call while there is no state.
 pub fn stateless(h: Host) -> Reply {
-    let shown = h.state;
-    super::hosting::plain(h, 254, shown)
+    super::hosting::plain(h, 254, h.state)
 }
 
 // A call while the state has not its form.
 pub fn malformed(h: Host) -> Reply {
-    let shown = h.state;
-    super::hosting::plain(h, 1, shown)
+    super::hosting::plain(h, 1, h.state)
 }
 
 // The bad place that an answer tells.
 fn place_told(a: Answer) -> BadPlace {
     match a {
-        Answer::Finished => volume::bad_places::no_place(),
-        Answer::Unfinished => volume::bad_places::no_place(),
-        Answer::Refused(_) => volume::bad_places::no_place(),
-        Answer::BadLog(b) => b,
+        Answer::BadLog(place) => place,
+        _ => volume::bad_places::no_place(),
     }
 }
 
 // What a call leaves that hands nothing on.
 fn told(h: Host, o: Outcome) -> Reply {
-    let a = o.answer;
-    let shown = o.state;
-    let code = volume::numbers::answer_number(a);
-    let place = place_told(a);
     Reply {
         host: h,
-        code,
-        shown,
-        place,
+        code: volume::numbers::answer_number(o.answer),
+        shown: o.state,
+        place: place_told(o.answer),
     }
 }
 
 // The host keeps the state that a finished call left.
 fn kept(h: Host, o: Outcome) -> Reply {
-    let a = o.answer;
-    let s = o.state;
-    let code = volume::numbers::answer_number(a);
-    if code != 0 {
+    if volume::numbers::answer_number(o.answer) != 0 {
         return told(h, o);
     }
-    let t = super::hosting::with_state(h, s);
-    super::hosting::plain(t, code, s)
+    super::hosting::plain(super::hosting::with_state(h, o.state), 0, o.state)
 }
 
 // Format.

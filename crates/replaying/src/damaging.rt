@@ -4,27 +4,18 @@ ghost use Rattle.replaying.specs.Damaging.{may_append};
 
 use tables::Geometry;
 
-// All pointers 0.
-pub fn clear_pointers(out: &mut [u32]) {
-    for pointer in out.iter_mut() {
-        *pointer = 0;
-    }
-}
-
 // One byte of the sectors, if there is one at that place.
 pub fn put_byte(sectors: &mut [u8], at: usize, value: u64) {
-    if sectors.len() <= at {
-        return;
+    if let Some(byte) = sectors.get_mut(at) {
+        *byte = (value % 256) as u8;
     }
-    sectors[at] = (value % 256) as u8;
 }
 
 // One pointer, if there is one at that place.
 fn put_pointer(table: &mut [u32], at: usize, value: u64) {
-    if table.len() <= at {
-        return;
+    if let Some(pointer) = table.get_mut(at) {
+        *pointer = super::hosting::narrow(value);
     }
-    table[at] = super::hosting::narrow(value);
 }
 
 // One zone's pair of pointers.

@@ -9,71 +9,39 @@ use volume::{State, ZoneRecord};
 pub fn lend(length: usize, short: usize, most: usize) -> usize
     ensures { result ≤ most }
 {
-    let n = length.saturating_sub(short);
-    if n <= most {
-        return n;
-    }
-    most
+    length.saturating_sub(short).min(most)
 }
 
 // A number as one of 32 bits; one past the largest is the largest.
 pub fn narrow(x: u64) -> u32 {
-    if x <= 4294967295 {
-        return x as u32;
-    }
-    4294967295
+    u32::try_from(x).unwrap_or(u32::MAX)
 }
 
 // The bytes of so many sectors; none where a sector is larger than any drive's.
 pub fn run_bytes(g: Geometry, sectors: u64) -> usize {
-    let b = g.sector;
-    let n = narrow(sectors) as usize;
-    if b <= 4096 {
-        return n * b;
+    if g.sector <= 4096 {
+        narrow(sectors) as usize * g.sector
+    } else {
+        0
     }
-    0
 }
 
 // The drives that a mask names.
 pub fn named_in(mask: u64) -> [bool; 8] {
-    [
-        mask % 2 == 1,
-        mask / 2 % 2 == 1,
-        mask / 4 % 2 == 1,
-        mask / 8 % 2 == 1,
-        mask / 16 % 2 == 1,
-        mask / 32 % 2 == 1,
-        mask / 64 % 2 == 1,
-        mask / 128 % 2 == 1,
-    ]
-}
-
-// No shortage.
-fn no_shortage() -> Shortage {
-    Shortage {
-        sectors: 0,
-        written: 0,
-        durable: 0,
-        buffer: 0,
-    }
+    std::array::from_fn(|drive| (mask >> drive) % 2 == 1)
 }
 
 // A state that says nothing, for a host that has none.
 fn blank_state() -> State {
-    let blank = volume::records::blank_record();
-    let zones = [blank; 16];
-    let shares = [0u32; volume::MAX_SHARES];
     State {
         lost: 255,
-        zones,
-        shares,
+        zones: [volume::records::blank_record(); 16],
+        shares: [0; volume::MAX_SHARES],
     }
 }
 
 // A host with a shelf of so many bytes and cells, and no state.
 fn empty_host(geometry: Geometry, bytes: usize, cells: usize) -> Host {
-    let state = blank_state();
-    let shortage = no_shortage();
     Host {
         geometry,
         bytes,
@@ -81,26 +49,26 @@ fn empty_host(geometry: Geometry, bytes: usize, cells: usize) -> Host {
         held: false,
         zones: 0,
         drives: 0,
-        state,
+        state: blank_state(),
         owners: [0; 16],
-        shortage,
+        shortage: Shortage::default(),
     }
 }
 
 // A host before its first command.
 pub fn first_host() -> Host {
-    let g = tables::bounds::geometry_of(0, 0, 0, 0, 0);
-    empty_host(g, 0, 0)
+    empty_host(tables::bounds::geometry_of(0, 0, 0, 0, 0), 0, 0)
 }
 
 // The geometry of a command: D, B, U, L, C.
 pub fn geometry_in(c: Command) -> Geometry {
-    let drives = c.first as usize;
-    let sector = c.second as usize;
-    let unit = c.third as usize;
-    let zones = c.fourth as usize;
-    let capacity = c.fifth as usize;
-    tables::bounds::geometry_of(drives, sector, unit, zones, capacity)
+    tables::bounds::geometry_of(
+        c.first as usize,
+        c.second as usize,
+        c.third as usize,
+        c.fourth as usize,
+        c.fifth as usize,
+    )
 }
 
 // The host of a new shelf: with no tables where the geometry is none, or needs more than the space that there is.
@@ -119,9 +87,7 @@ pub fn fresh_host(g: Geometry, space: usize) -> Host {
 
 // The geometry that is handed to the calls from here on.
 pub fn with_geometry(h: Host, g: Geometry) -> Host {
-    let mut t = h;
-    t.geometry = g;
-    t
+    Host { geometry: g, ..h }
 }
 
 // The shortage that a command announces.
@@ -136,18 +102,18 @@ fn shortage_in(c: Command) -> Shortage {
 
 // The shortage of the next command.
 pub fn with_shortage(h: Host, c: Command) -> Host {
-    let s = shortage_in(c);
-    let mut t = h;
-    t.shortage = s;
-    t
+    Host {
+        shortage: shortage_in(c),
+        ..h
+    }
 }
 
 // The shortage is that of one command alone.
 pub fn without_shortage(h: Host) -> Host {
-    let s = no_shortage();
-    let mut t = h;
-    t.shortage = s;
-    t
+    Host {
+        shortage: Shortage::default(),
+        ..h
+    }
 }
 
 // One zone's record in the host's state; its owner stays.
@@ -156,18 +122,12 @@ pub fn with_record(h: Host, c: Command) -> Host {
     if 16 <= z {
         return h;
     }
-    let condition = volume::numbers::condition_of(c.third, c.fourth as usize);
-    let mut s = h.state;
-    let old = s.zones[z];
-    let owner = old.owner;
-    let r = ZoneRecord {
-        generation: c.second,
-        condition,
-        owner,
-    };
-    s.zones[z] = r;
     let mut t = h;
-    t.state = s;
+    t.state.zones[z] = ZoneRecord {
+        generation: c.second,
+        condition: volume::numbers::condition_of(c.third, c.fourth as usize),
+        owner: h.state.zones[z].owner,
+    };
     t
 }
 
@@ -177,18 +137,8 @@ pub fn with_owner(h: Host, c: Command) -> Host {
     if 16 <= z {
         return h;
     }
-    let mut s = h.state;
-    let old = s.zones[z];
-    let condition = old.condition;
-    let owner = volume::numbers::owner_of_number(c.second);
-    let r = ZoneRecord {
-        generation: old.generation,
-        condition,
-        owner,
-    };
-    s.zones[z] = r;
     let mut t = h;
-    t.state = s;
+    t.state.zones[z].owner = volume::numbers::owner_of_number(c.second);
     t.owners[z] = (c.second % 256) as u32;
     t
 }
@@ -200,49 +150,42 @@ pub fn with_shares(h: Host, c: Command) -> Host {
         return h;
     }
     let at = d * volume::HOSTS;
-    let mut s = h.state;
-    s.shares[at] = narrow(c.second);
-    s.shares[at + 1] = narrow(c.third);
     let mut t = h;
-    t.state = s;
+    t.state.shares[at] = narrow(c.second);
+    t.state.shares[at + 1] = narrow(c.third);
     t
 }
 
 // The host with the state that a finished call left.
 pub fn with_state(h: Host, s: State) -> Host {
-    let g = h.geometry;
-    let owners = super::forming::owners_of(s);
-    let mut t = h;
-    t.held = true;
-    t.zones = g.zones;
-    t.drives = g.drives;
-    t.state = s;
-    t.owners = owners;
-    t
+    Host {
+        held: true,
+        zones: h.geometry.zones,
+        drives: h.geometry.drives,
+        state: s,
+        owners: super::forming::owners_of(s),
+        ..h
+    }
 }
 
 // The lost drive in the host's state.
 pub fn with_lost(h: Host, lost: usize) -> Host {
-    let mut s = h.state;
-    s.lost = lost;
     let mut t = h;
-    t.state = s;
+    t.state.lost = lost;
     t
 }
 
 // What a command leaves that tells no bad place.
 pub fn plain(h: Host, code: u8, shown: State) -> Reply {
-    let place = volume::bad_places::no_place();
     Reply {
         host: h,
         code,
         shown,
-        place,
+        place: volume::bad_places::no_place(),
     }
 }
 
 // What a command leaves that is no call.
 pub fn quiet(h: Host) -> Reply {
-    let shown = h.state;
-    plain(h, 0, shown)
+    plain(h, 0, h.state)
 }

@@ -3,6 +3,7 @@
 // and to end, no more: what they show is compared line by line with the vectors.
 #![tactic(auto)]
 
+use std::fmt;
 use tables::Geometry;
 use volume::{BadPlace, Reported, State, ZoneDescriptor};
 
@@ -18,14 +19,7 @@ pub mod performing;
 pub mod showing;
 pub mod stream;
 
-// A decimal number of a text, and the place behind its last digit.
-#[derive(Clone, Copy)]
-pub struct Number {
-    pub value: u64,
-    pub next: usize,
-}
-
-// A command line: its letter, its numbers (0 where there are fewer), and where the next line begins.
+// A command line: its letter and its numbers (0 where there are fewer).
 #[derive(Clone, Copy)]
 pub struct Command {
     pub letter: u8,
@@ -35,11 +29,10 @@ pub struct Command {
     pub fourth: u64,
     pub fifth: u64,
     pub sixth: u64,
-    pub next: usize,
 }
 
 // By how much the tables and the buffer are lent too short, for one command.
-#[derive(Clone, Copy)]
+#[derive(Clone, Copy, Default)]
 pub struct Shortage {
     pub sectors: usize,
     pub written: usize,
@@ -71,11 +64,21 @@ pub struct Reply {
     pub place: BadPlace,
 }
 
-// What a read showed: the answer's number, and the checksum of the bytes read.
+// What a read showed: the answer's number, and the checksum of the bytes read. A line shows the checksum, or the refusal.
 #[derive(Clone, Copy)]
 pub struct Glimpse {
     pub code: u8,
     pub sum: u64,
+}
+
+impl fmt::Display for Glimpse {
+    fn fmt<W: fmt::Write>(&self, f: &mut fmt::Formatter<W>) -> fmt::Result {
+        if self.code == 0 {
+            write!(f, "{}", self.sum)
+        } else {
+            write!(f, "r{}", self.code)
+        }
+    }
 }
 
 // What a report leaves: its answer and number, and the list.

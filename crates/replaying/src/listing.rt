@@ -34,29 +34,22 @@ fn report_into(g: Geometry, state: State, mut list: [ZoneDescriptor; 16], room: 
 
 // The report into an untouched list. At most 16 descriptors are lent: there are no more zones.
 pub fn listed(h: Host, c: Command) -> Listed {
-    let g = h.geometry;
-    let state = h.state;
     let room = super::hosting::lend(c.first as usize, 0, 16);
-    let d = untouched();
-    let list = [d; 16];
-    report_into(g, state, list, room)
+    report_into(h.geometry, h.state, [untouched(); 16], room)
 }
 
 // Descriptor z of the list as the report left it.
 fn descriptor_at(l: Listed, z: usize) -> ZoneDescriptor {
-    if 16 <= z {
-        return untouched();
-    }
-    l.list[z]
+    l.list.get(z).copied().unwrap_or(untouched())
 }
 
 // The number of its condition, or the bytes from before where the report filled nothing.
 fn told_at(l: Listed, z: usize, told: ReportedCondition) -> u64 {
-    let r = l.reported;
-    if z < r.number {
-        return volume::numbers::told_number(told);
+    if z < l.reported.number {
+        volume::numbers::told_number(told)
+    } else {
+        UNTOUCHED
     }
-    UNTOUCHED
 }
 
 // With the bytes of descriptor z of the list.
@@ -65,21 +58,15 @@ fn add_listed(s: Sums, l: Listed, z: usize) -> Sums
     ensures { Small result }
 {
     let d = descriptor_at(l, z);
-    let start = d.start;
-    let capacity = d.capacity;
-    let pointer = d.pointer;
-    let condition = d.condition;
-    let told = told_at(l, z, condition);
-    let s1 = super::checksum::add_number(s, start);
-    let s2 = super::checksum::add_number(s1, capacity);
-    let s3 = super::checksum::add_number(s2, pointer);
-    super::checksum::add_number(s3, told)
+    let s1 = super::checksum::add_number(s, d.start);
+    let s2 = super::checksum::add_number(s1, d.capacity);
+    let s3 = super::checksum::add_number(s2, d.pointer);
+    super::checksum::add_number(s3, told_at(l, z, d.condition))
 }
 
 // How many descriptors are filled.
 pub fn report_filled(l: Listed) -> u64 {
-    let r = l.reported;
-    r.number as u64
+    l.reported.number as u64
 }
 
 // The checksum of the list.

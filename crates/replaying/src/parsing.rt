@@ -1,93 +1,55 @@
 // A command line of a script: a letter and decimal numbers, with one space before each.
-ghost use Rattle.std.specs.Prelude.{◌<◌, ◌≤◌, length};
+ghost use Rattle.std.specs.Prelude.{◌<◌, ◌≤◌, length, IfSome, IsSome};
 
-use super::{Command, Number};
+use super::Command;
 
-// Whether a byte is a decimal digit.
-fn is_digit(b: u8) -> bool {
-    (48 <= b) & (b <= 57)
-}
-
-// A number with one digit more, whose value a digit's byte has in its low four bits; one past the largest stays there.
-fn decimal_step(value: u64, b: u8) -> u64 {
-    let digit = tables::bytes::wide(b) % 16;
-    let most = 18446744073709551615 - digit;
-    if value <= most / 10 {
-        return value * 10 + digit;
-    }
-    18446744073709551615
-}
-
-// The decimal number that begins at a place.
-fn number_at(text: &[u8], at: usize) -> Number
-    ensures { at ≤ result.next }
+// The decimal number behind a space, and the text behind its last digit; where there is no space, 0 and the whole text.
+// A digit's value is its byte's low four bits, and a number past the largest is the largest.
+fn field(text: &[u8]) -> (u64, &[u8])
+    ensures { length result.1.now ≤ length text.now }
 {
-    let n = text.len();
-    let mut value = 0;
-    let mut i = at;
-    while i < n {
-        let b = text[i];
-        let more = is_digit(b);
-        if !more {
-            return Number { value, next: i };
-        }
-        value = decimal_step(value, b);
-        i += 1;
-    }
-    Number { value, next: i }
+    let Some(rest) = text.strip_prefix(b" ") else {
+        return (0, text);
+    };
+    let end = rest.iter().take_while(|b| b.is_ascii_digit()).count();
+    let (digits, rest) = rest.split_at(end);
+    let value = digits.iter().fold(0u64, |value, b| {
+        value.saturating_mul(10).saturating_add(u64::from(*b % 16))
+    });
+    (value, rest)
 }
 
-// The number behind a space; where there is no space, 0.
-fn field_at(text: &[u8], at: usize) -> Number
-    ensures { at ≤ result.next }
+// The text behind the first line's end.
+fn next_line(text: &[u8]) -> &[u8]
+    ensures { length result.now ≤ length text.now }
 {
-    if text.len() <= at {
-        return Number { value: 0, next: at };
+    match text.iter().position(|b| *b == b'\n') {
+        Some(end) => &text[end + 1..],
+        None => &[],
     }
-    let b = text[at];
-    if b != 32 {
-        return Number { value: 0, next: at };
-    }
-    number_at(text, at + 1)
 }
 
-// The place behind the end of a line.
-fn line_end(text: &[u8], at: usize) -> usize
-    ensures { at ≤ result }
+// The command that a text begins with, and the text behind its line. The letter is the line's first byte, whatever it is: where that is the end of an
+// empty line, the numbers and the end are sought in the next line.
+pub fn command_at(text: &[u8]) -> Option<(Command, &[u8])>
+    ensures some { 0 < length text.now → IsSome result }
+    ensures shorter { IfSome result (λ r. length r.1.now < length text.now) }
 {
-    let n = text.len();
-    let mut i = at;
-    while i < n {
-        let b = text[i];
-        i += 1;
-        if b == 10 {
-            return i;
-        }
-    }
-    i
-}
-
-// The command that begins at a place of the text.
-pub fn command_at(text: &[u8], at: usize) -> Command
-    requires { at < length text.now }
-    ensures { at < result.next }
-{
-    let letter = text[at];
-    let a = field_at(text, at + 1);
-    let b = field_at(text, a.next);
-    let c = field_at(text, b.next);
-    let d = field_at(text, c.next);
-    let e = field_at(text, d.next);
-    let f = field_at(text, e.next);
-    let next = line_end(text, f.next);
-    Command {
-        letter,
-        first: a.value,
-        second: b.value,
-        third: c.value,
-        fourth: d.value,
-        fifth: e.value,
-        sixth: f.value,
-        next,
-    }
+    let (letter, rest) = text.split_first()?;
+    let (first, rest) = field(rest);
+    let (second, rest) = field(rest);
+    let (third, rest) = field(rest);
+    let (fourth, rest) = field(rest);
+    let (fifth, rest) = field(rest);
+    let (sixth, rest) = field(rest);
+    let command = Command {
+        letter: *letter,
+        first,
+        second,
+        third,
+        fourth,
+        fifth,
+        sixth,
+    };
+    Some((command, next_line(rest)))
 }

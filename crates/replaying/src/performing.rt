@@ -10,26 +10,15 @@ fn call_with_state(
     h: Host,
     c: Command,
 ) -> Reply {
-    let letter = c.letter;
-    if letter == b'w' {
-        return super::calling::write(sectors, written, durable, buffer, h, c);
+    match c.letter {
+        b'w' => super::calling::write(sectors, written, durable, buffer, h, c),
+        b'u' => super::calling::flush(sectors, written, durable, h, c),
+        b'r' => super::calling::reset(sectors, written, durable, h, c),
+        b'k' => super::calling::compact(sectors, written, durable, h, c),
+        b'd' => super::calling::read(sectors, written, durable, buffer, h, c),
+        b'o' => super::calling::report(h, c),
+        _ => super::calling::peek(sectors, written, durable, h, c),
     }
-    if letter == b'u' {
-        return super::calling::flush(sectors, written, durable, h, c);
-    }
-    if letter == b'r' {
-        return super::calling::reset(sectors, written, durable, h, c);
-    }
-    if letter == b'k' {
-        return super::calling::compact(sectors, written, durable, h, c);
-    }
-    if letter == b'd' {
-        return super::calling::read(sectors, written, durable, buffer, h, c);
-    }
-    if letter == b'o' {
-        return super::calling::report(h, c);
-    }
-    super::calling::peek(sectors, written, durable, h, c)
 }
 
 // A call on tables that are lent.
@@ -41,33 +30,19 @@ fn call(
     h: Host,
     c: Command,
 ) -> Reply {
-    let letter = c.letter;
-    if letter == b'f' {
-        return super::calling::format(sectors, written, durable, h, c);
+    match c.letter {
+        b'f' => super::calling::format(sectors, written, durable, h, c),
+        b'm' => super::calling::mount(sectors, written, durable, h, c),
+        b'l' => super::calling::look(sectors, written, durable, h, c),
+        _ if !h.held => super::calling::stateless(h),
+        _ if super::forming::is_odd(h) => super::calling::malformed(h),
+        _ => call_with_state(sectors, written, durable, buffer, h, c),
     }
-    if letter == b'm' {
-        return super::calling::mount(sectors, written, durable, h, c);
-    }
-    if letter == b'l' {
-        return super::calling::look(sectors, written, durable, h, c);
-    }
-    let held = h.held;
-    if !held {
-        return super::calling::stateless(h);
-    }
-    let odd = super::forming::is_odd(h);
-    if odd {
-        return super::calling::malformed(h);
-    }
-    call_with_state(sectors, written, durable, buffer, h, c)
 }
 
 // How many sectors a write or a read has.
 fn run_in(c: Command) -> u64 {
-    if c.letter == b'w' {
-        return c.fourth;
-    }
-    c.third
+    if c.letter == b'w' { c.fourth } else { c.third }
 }
 
 // The tables as long as the shelf's, less the command's shortage; the buffer as long as the run, less its shortage.
@@ -100,38 +75,24 @@ fn call_on_tables(
 fn new_drives(space: &mut [u8], written: &mut [u32], durable: &mut [u32], c: Command) -> Reply {
     let g = super::hosting::geometry_in(c);
     let h = super::hosting::fresh_host(g, space.len());
-    tables::sectors::clear(space);
-    super::damaging::clear_pointers(written);
-    super::damaging::clear_pointers(durable);
+    space.fill(0);
+    written.fill(0);
+    durable.fill(0);
     super::hosting::quiet(h)
 }
 
 // A change of what the host keeps: geometry, shortage, a zone's record or owner, a drive's shares, the lost drive; of another command nothing.
 fn change_host(h: Host, c: Command) -> Host {
-    let letter = c.letter;
-    if letter == b'y' {
-        let g = super::hosting::geometry_in(c);
-        return super::hosting::with_geometry(h, g);
+    match c.letter {
+        b'y' => super::hosting::with_geometry(h, super::hosting::geometry_in(c)),
+        b'n' => super::hosting::with_shortage(h, c),
+        _ if !h.held => h,
+        b's' => super::hosting::with_record(h, c),
+        b'i' => super::hosting::with_owner(h, c),
+        b'h' => super::hosting::with_shares(h, c),
+        b'x' => super::hosting::with_lost(h, c.first as usize),
+        _ => h,
     }
-    if letter == b'n' {
-        return super::hosting::with_shortage(h, c);
-    }
-    if !h.held {
-        return h;
-    }
-    if letter == b's' {
-        return super::hosting::with_record(h, c);
-    }
-    if letter == b'i' {
-        return super::hosting::with_owner(h, c);
-    }
-    if letter == b'h' {
-        return super::hosting::with_shares(h, c);
-    }
-    if letter == b'x' {
-        return super::hosting::with_lost(h, c.first as usize);
-    }
-    h
 }
 
 // A cut of all drives of the shelf.
@@ -174,38 +135,14 @@ fn change_tables(
     h: Host,
     c: Command,
 ) {
-    let letter = c.letter;
-    if letter == b'c' {
-        cut_tables(written, durable, h, c);
-        return;
+    match c.letter {
+        b'c' => cut_tables(written, durable, h, c),
+        b'b' => super::damaging::put_byte(space, c.first as usize, c.second),
+        b't' => {
+            super::damaging::put_pair(written, durable, c.first as usize, c.second, c.third);
+        }
+        _ => append_to_log(space, written, buffer, h, c),
     }
-    if letter == b'b' {
-        super::damaging::put_byte(space, c.first as usize, c.second);
-        return;
-    }
-    if letter == b't' {
-        super::damaging::put_pair(written, durable, c.first as usize, c.second, c.third);
-        return;
-    }
-    append_to_log(space, written, buffer, h, c);
-}
-
-// Whether a letter is that of a call.
-fn is_call(letter: u8) -> bool {
-    (letter == b'f')
-        | ((letter == b'm')
-            | ((letter == b'l')
-                | ((letter == b'w')
-                    | ((letter == b'u')
-                        | ((letter == b'r')
-                            | ((letter == b'k')
-                                | ((letter == b'd') | ((letter == b'p') | (letter == b'o')))))))))
-}
-
-// Whether a letter is that of a change of the tables.
-fn is_change(letter: u8) -> bool {
-    (letter == b'c')
-        | ((letter == b'b') | ((letter == b't') | ((letter == b'e') | (letter == b'q'))))
 }
 
 // Carries a command out.
@@ -217,19 +154,15 @@ pub fn perform(
     h: Host,
     c: Command,
 ) -> Reply {
-    let letter = c.letter;
-    if letter == b'g' {
-        return new_drives(space, written, durable, c);
+    match c.letter {
+        b'g' => new_drives(space, written, durable, c),
+        b'f' | b'm' | b'l' | b'w' | b'u' | b'r' | b'k' | b'd' | b'p' | b'o' => {
+            call_on_tables(space, written, durable, buffer, h, c)
+        }
+        b'c' | b'b' | b't' | b'e' | b'q' => {
+            change_tables(space, written, durable, buffer, h, c);
+            super::hosting::quiet(h)
+        }
+        _ => super::hosting::quiet(change_host(h, c)),
     }
-    let calls = is_call(letter);
-    if calls {
-        return call_on_tables(space, written, durable, buffer, h, c);
-    }
-    let changes = is_change(letter);
-    if changes {
-        change_tables(space, written, durable, buffer, h, c);
-        return super::hosting::quiet(h);
-    }
-    let t = change_host(h, c);
-    super::hosting::quiet(t)
 }

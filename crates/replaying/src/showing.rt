@@ -4,9 +4,7 @@ use volume::{Answer, State};
 
 // Whether a command's line shows the host's state whole: those of format, mount, write, flush, reset and compact do.
 pub fn may_keep(letter: u8) -> bool {
-    (letter == b'f')
-        | ((letter == b'm')
-            | ((letter == b'w') | ((letter == b'u') | ((letter == b'r') | (letter == b'k')))))
+    matches!(letter, b'f' | b'm' | b'w' | b'u' | b'r' | b'k')
 }
 
 // A read's checksum, if it was finished.
@@ -50,14 +48,10 @@ fn read_run(
 fn zone_start(h: Host, z: usize) -> u64 {
     let g = h.geometry;
     let ok = tables::bounds::valid(g);
-    if !ok {
+    if !ok || 16 <= z {
         return 0;
     }
-    if 16 <= z {
-        return 0;
-    }
-    let q = tables::bounds::zone_sectors(g);
-    (z * q) as u64
+    (z * tables::bounds::zone_sectors(g)) as u64
 }
 
 // A read of a whole zone up to its pointer under the state that a look showed; the checksum of nothing where the pointer is 0.
@@ -74,9 +68,7 @@ pub fn read_zone(
     if 16 <= z {
         return Glimpse { code: 8, sum: 0 };
     }
-    let r = shown.zones[z];
-    let condition = r.condition;
-    let n = volume::records::pointer_of(condition);
+    let n = volume::records::pointer_of(shown.zones[z].condition);
     if n == 0 {
         return Glimpse { code: 0, sum: 1 };
     }
@@ -116,8 +108,7 @@ fn place_in(part: &[u8]) -> u64 {
     if part.len() < 4 {
         return 0;
     }
-    let n = tables::bytes::read_u32(part, 0);
-    n as u64
+    u64::from(tables::bytes::read_u32(part, 0))
 }
 
 // The part of the shelf's sectors that a peek gives.

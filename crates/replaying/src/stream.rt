@@ -39,25 +39,15 @@ fn cut_pointer(written: u32, durable: u32, x: u64) -> u32 {
     durable + ((x / 65536) % gap) as u32
 }
 
-// One zone's pointers after the cut.
-fn cut_cell(written: &mut [u32], durable: &mut [u32], i: usize, x: u64)
-    requires { (i < length written.old) × (i < length durable.old) }
-{
-    let w = written[i];
-    let d = durable[i];
-    let p = cut_pointer(w, d, x);
-    written[i] = p;
-    durable[i] = p;
-}
-
 // A power cut over tables of one length: of what is not durable each zone keeps as much as the stream says.
 pub fn cut(written: &mut [u32], durable: &mut [u32], seed: u64)
     requires { length written.old ≡ length durable.old }
 {
-    let n = written.len();
     let mut x = seed_start(seed);
-    for i in 0..n {
+    for (w, d) in written.iter_mut().zip(durable) {
         x = next_draw(x);
-        cut_cell(written, durable, i, x);
+        let pointer = cut_pointer(*w, *d, x);
+        *w = pointer;
+        *d = pointer;
     }
 }

@@ -1,17 +1,16 @@
 // What the two logs of one drive say, read in the tables. A written pointer past its zone's end counts as one at the end, so that every
 // function here has an answer whatever the pointers are.
-ghost use Rattle.std.specs.Prelude.{◌≡◌, ◌||◌, ◌≤◌, ◌<◌, length, eqb};
+ghost use Rattle.std.specs.Prelude.{◌≡◌, ◌||◌, ◌≤◌, ◌<◌, length};
 ghost use Rattle.tables.specs.meaning.Geometry.{Valid, physical_zones, cells};
 ghost use Rattle.tables.specs.meaning.Lists.{any_of};
-ghost use Rattle.logs.specs.meaning.Heads.{labelled, array_in, generation_in, ends_past};
-ghost use Rattle.logs.specs.code.Query.{answer};
+ghost use Rattle.logs.specs.meaning.Heads.{labelled, array_in, generation_in, is_reset, is_seal, ends_past};
 ghost use Rattle.logs.specs.meaning.Entry.{Entry};
 ghost use Rattle.logs.specs.code.QueryLaws.{SmallSeen};
 ghost use Rattle.volume.specs.meaning.Rules.{general_heads, parity_entries, parity_ending, ending_past};
 ghost use Rattle.volume.specs.looking.DriveLogs.{Sized, zone_pointer, log_in, says_lost, past_seen};
 ghost use Rattle.volume.specs.looking.Knowing.{read_device};
 
-use logs::{Found, Log, Query};
+use logs::{Found, Log};
 use tables::Geometry;
 
 // How many sectors a zone of a drive has.
@@ -84,14 +83,38 @@ pub fn last_generation(sectors: &[u8], written: &[u32], g: Geometry, drive: usiz
     logs::folds::last_generation(sectors, g, log, z)
 }
 
-// Whether the general log answers 1 to a question.
-pub fn tells(query: Query, sectors: &[u8], written: &[u32], g: Geometry, drive: usize) -> bool
+// Whether the general log has a reset of a zone and generation.
+pub fn has_reset(
+    sectors: &[u8],
+    written: &[u32],
+    g: Geometry,
+    drive: usize,
+    z: usize,
+    generation: u64,
+) -> bool
     requires valid { Valid g }
     requires sized { Sized g sectors.now written.now × (drive < g.drives) }
-    ensures { result ≡ eqb (answer g query 0 0 (general_heads g (read_device g sectors.now written.now) drive)) 1 }
+    ensures { result ≡ any_of (is_reset z generation) (general_heads g (read_device g sectors.now written.now) drive) }
 {
     let log = log_in(written, g, drive, logs::GENERAL_LOG);
-    logs::asking::ask_log(query, sectors, g, log, false, 0) == 1
+    logs::folds::has_reset(sectors, g, log, z, generation)
+}
+
+// Whether it has a seal of a zone and generation.
+pub fn has_seal(
+    sectors: &[u8],
+    written: &[u32],
+    g: Geometry,
+    drive: usize,
+    z: usize,
+    generation: u64,
+) -> bool
+    requires valid { Valid g }
+    requires sized { Sized g sectors.now written.now × (drive < g.drives) }
+    ensures { result ≡ any_of (is_seal z generation) (general_heads g (read_device g sectors.now written.now) drive) }
+{
+    let log = log_in(written, g, drive, logs::GENERAL_LOG);
+    logs::folds::has_seal(sectors, g, log, z, generation)
 }
 
 // Whether what was found is a partial parity entry of a zone and generation that ends past pointer q.
@@ -102,13 +125,8 @@ fn found_past(f: Found, g: Geometry, z: usize, generation: u64, q: usize) -> boo
 {
     let k = tables::bounds::stripe_sectors(g);
     match f {
-        Found::Bad => false,
-        Found::Label(_, _) => false,
-        Found::Counters => false,
-        Found::Resets(_, _) => false,
-        Found::Partial(y, s, fill, n) => (y == z) & ((n == generation) & (q < s * k + fill)),
-        Found::Seal(_, _, _) => false,
-        Found::Closing(_) => false,
+        Found::Partial(y, s, fill, n) => y == z && n == generation && q < s * k + fill,
+        _ => false,
     }
 }
 

@@ -12,15 +12,14 @@ ghost use Rattle.volume.specs.emptying.ParityTurns.{ParitiesReady, parity_copies
 use super::emptying::Emptying;
 use tables::{Geometry, MAX_DRIVES};
 
-// Which logs are emptied: where all logs lay and where they lie afterwards, the drives that are here, those whose log is emptied, and the generations of
-// the new logs.
+// Which logs are emptied: where all logs lay and where they lie afterwards, the drives that are here, and the generations of the new logs, of the drives whose
+// log is emptied.
 #[derive(Clone, Copy)]
 pub struct Emptyings {
     pub from: Geometry,
     pub to: Geometry,
     pub here: [bool; MAX_DRIVES],
-    pub emptied: [bool; MAX_DRIVES],
-    pub generations: [u64; MAX_DRIVES],
+    pub emptied: [Option<u64>; MAX_DRIVES],
 }
 
 // A drive's general log, if it is one of them.
@@ -39,20 +38,13 @@ fn empty_general_on(
     ensures { Made all.to budget result (emptied_on all false (new_general_on all generations.now sectors.old pointers.now drive) drive)
         (tables_of sectors.old written.old durable.old) (tables_of sectors.new written.new durable.new) }
 {
-    let emptied = all.emptied;
-    let due = emptied[drive];
-    if !due {
+    let Some(generation) = all.emptied[drive] else {
         return budget;
-    }
-    let from = all.from;
-    let to = all.to;
-    let here = all.here;
-    let closing = all.generations;
-    let generation = closing[drive];
+    };
     let e = Emptying {
-        from,
-        to,
-        here,
+        from: all.from,
+        to: all.to,
+        here: all.here,
         drive,
         generation,
     };
@@ -108,20 +100,13 @@ fn empty_parity_at(
     ensures { Made all.to budget result (emptied_on all true (parity_copies_on all generations.now points.now pointers.now starts.now sectors.old drive) drive)
         (tables_of sectors.old written.old durable.old) (tables_of sectors.new written.new durable.new) }
 {
-    let emptied = all.emptied;
-    let due = emptied[drive];
-    if !due {
+    let Some(generation) = all.emptied[drive] else {
         return budget;
-    }
-    let from = all.from;
-    let to = all.to;
-    let here = all.here;
-    let closing = all.generations;
-    let generation = closing[drive];
+    };
     let e = Emptying {
-        from,
-        to,
-        here,
+        from: all.from,
+        to: all.to,
+        here: all.here,
         drive,
         generation,
     };

@@ -40,50 +40,37 @@ pub fn owner_of(host: usize) -> Owner
     ensures { result ≡ owner_of host }
 {
     if host == 0 {
-        return Owner::Host0;
+        Owner::Host0
+    } else {
+        Owner::Host1
     }
-    Owner::Host1
 }
 
 pub fn is_owner(host: usize, owner: Owner) -> bool
     ensures { result ≡ is_owner host owner }
 {
-    match owner {
-        Owner::Nobody => false,
-        Owner::Host0 => host == 0,
-        Owner::Host1 => host == 1,
-    }
+    matches!((host, owner), (0, Owner::Host0) | (1, Owner::Host1))
 }
 
 // Whether a zone in this condition counts: it is open with its pointer below its end, at `most` sectors.
 pub fn counts(c: Condition, most: usize) -> bool
     ensures { result ≡ counts_within most c }
 {
-    match c {
-        Condition::Empty => false,
-        Condition::Open(n) => n < most,
-        Condition::Sealed(_) => false,
-        Condition::Worn(_) => false,
-    }
+    matches!(c, Condition::Open(n) if n < most)
 }
 
 // Whether a zone with this record counts to a host.
 pub fn counts_to(r: ZoneRecord, most: usize, host: usize) -> bool
     ensures { result ≡ counts_at most host r }
 {
-    let c = r.condition;
-    let owner = r.owner;
-    let counted = counts(c, most);
-    let own = is_owner(host, owner);
-    counted & own
+    counts(r.condition, most) && is_owner(host, r.owner)
 }
 
 // Whether a write that ends at a pointer of a zone with this record gives its host one zone more. If not, refusals 18 and 19 do not apply.
 pub fn adds_zone(r: ZoneRecord, most: usize, host: usize, end: usize) -> bool
     ensures { result ≡ adds_at most host end r }
 {
-    let own = counts_to(r, most, host);
-    (end < most) & !own
+    end < most && !counts_to(r, most, host)
 }
 
 // The zones that count.
@@ -111,9 +98,10 @@ fn limit_of(host: usize) -> usize
     ensures { result ≡ limit_of host }
 {
     if host == 0 {
-        return MOST_OF_HOST_0;
+        MOST_OF_HOST_0
+    } else {
+        MOST_OF_HOST_1
     }
-    MOST_OF_HOST_1
 }
 
 // Refusals 18 and 19 of a write that gives its host one zone more, by those that count. `counted`: whether its zone counts already.

@@ -291,12 +291,7 @@ fn source_of(sectors: &[u8], written: &[u32], zone: Zone, limit: usize, a: usize
 fn has_source(way: Source) -> bool
     ensures { result ≡ has_source way }
 {
-    match way {
-        Source::Unknown => false,
-        Source::Held => true,
-        Source::Row => true,
-        Source::Entry(_) => true,
-    }
+    !matches!(way, Source::Unknown)
 }
 
 // Whether address a of a zone is known under a generation; limit is the zone's least current seal.

@@ -47,6 +47,7 @@ pub enum Condition {
 }
 
 // The host that wrote a zone last; nobody since the last format, mount or reset of the zone (document 02, 2.6).
+// kept: no Option of a host, since definitions name the three (`owner_of`, `is_owner`).
 #[derive(Clone, Copy)]
 pub enum Owner {
     Nobody,
@@ -69,6 +70,7 @@ pub const MAX_SHARES: usize = 16;
 
 // What the hosts keep between calls: the lost drive or 255; a record for each zone; and what is left of each host's share of each drive's parity log, host h's
 // of drive d at HOSTS × d + h. Records past the volume's last zone say nothing.
+// kept: 255 for no lost drive, as definitions have it (`no_drive`, `find_below`, `state_within`) and the bytes of a state and a label.
 #[derive(Clone, Copy)]
 pub struct State {
     pub lost: usize,
@@ -108,6 +110,7 @@ pub enum Refusal {
 }
 
 // A bad place of a log: its number, 6, 16 or 17 (logs' `Fault`), 0 if there is none; its drive, physical zone and sector.
+// kept: the number with 0 for none, since definitions give it so (`no_bad_place`, `first_of`).
 #[derive(Clone, Copy)]
 pub struct BadPlace {
     pub number: u8,
@@ -118,6 +121,7 @@ pub struct BadPlace {
 
 // A call's answer: finished, unfinished (stores were left when the count of stores ran out), or refused with the documents' number; a look or a mount
 // that is refused for a log tells its first bad place.
+// kept: no Result, and refusals by number, since definitions name these four and the number (`storing`, `refused_at`).
 #[derive(Clone, Copy)]
 pub enum Answer {
     Finished,

@@ -5,6 +5,7 @@ ghost use Rattle.std.specs.Prelude.{◌≡◌, ◌&&◌, true, false, ◌≤◌,
 ghost use Rattle.tables.specs.meaning.Basics.{pick};
 ghost use Rattle.tables.specs.meaning.Geometry.{Valid, cells};
 ghost use Rattle.volume.specs.meaning.CallContracts.{is_set};
+ghost use Rattle.volume.specs.declared.log_room.DriveRoom.TheVariants.{Full, Emptied};
 ghost use Rattle.volume.specs.checks.LogRoom.{Asking, kind_lacks_at, unused_at, lacks_at, claim_at, lost_at, drive_room_of, unsized_at, no_answers, with_answer, room_of, emptyings_of, general_room_at, parity_room_at};
 ghost use Rattle.volume.specs.emptying.ParityCopies.{PointersWithin};
 
@@ -27,20 +28,19 @@ pub struct RoomAsked {
     pub clears_spares: bool,
 }
 
-// A drive's answer: whether its log lacks room; if so, whether it stays full, and else the generation that its new log gets.
+// A drive's answer: its log has room or is not asked for any; or it lacks room, and stays full; or it is emptied, and its new log gets this generation.
 #[derive(Clone, Copy)]
-pub struct DriveRoom {
-    pub lacks: bool,
-    pub full: bool,
-    pub generation: u64,
+pub enum DriveRoom {
+    Roomy,
+    Full,
+    Emptied(u64),
 }
 
-// That of all drives: whether one stays full, which are emptied, and the generations of the new logs.
+// That of all drives: whether one stays full; and of those whose log lacks room the generation of the new log, 0 where it stays full.
 #[derive(Clone, Copy)]
 pub struct LogRoom {
     pub full: bool,
-    pub emptied: [bool; MAX_DRIVES],
-    pub generations: [u64; MAX_DRIVES],
+    pub emptied: [Option<u64>; MAX_DRIVES],
 }
 
 // Whether a drive lacks a kind.
@@ -102,11 +102,7 @@ fn new_log(
     let no_general = kind_lacks(asked.places, false, drive);
     let no_parity = kind_lacks(asked.places, true, drive);
     if no_general | no_parity {
-        return DriveRoom {
-            lacks: true,
-            full: true,
-            generation: 0,
-        };
+        return DriveRoom::Full;
     }
     let old = super::roles::log_generation(sectors, written, asked.first, drive, asked.parity);
     let spare = super::drive_logs::zone_pointer(
@@ -117,18 +113,9 @@ fn new_log(
     );
     let clears = asked.clears_spares;
     if (old == logs::WORN_GENERATION) | (!clears & (0 < spare)) {
-        return DriveRoom {
-            lacks: true,
-            full: true,
-            generation: 0,
-        };
+        return DriveRoom::Full;
     }
-    let generation = old + 1;
-    DriveRoom {
-        lacks: true,
-        full: false,
-        generation,
-    }
+    DriveRoom::Emptied(old + 1)
 }
 
 // A drive's answer before the size of its new log is known.
@@ -145,28 +132,20 @@ fn room_unsized(
 {
     let lacks = lacks_room(pointers, asked, drive);
     if !lacks {
-        return DriveRoom {
-            lacks: false,
-            full: false,
-            generation: 0,
-        };
+        return DriveRoom::Roomy;
     }
     new_log(sectors, written, pointers, asked, drive)
 }
 
-// The same with the size that the new log has.
-fn with_size(room: DriveRoom, capacity: usize, limit: usize, size: usize) -> DriveRoom
-    ensures { result ≡ pick (ltb (capacity - size) limit) (drive_room_of true true 0) room }
+// A log that would be emptied, by the size that its new log has.
+fn with_size(generation: u64, capacity: usize, limit: usize, size: usize) -> DriveRoom
+    ensures { result ≡ pick (ltb (capacity - size) limit) Full (Emptied generation) }
 {
     let left = capacity.saturating_sub(size);
     if left < limit {
-        return DriveRoom {
-            lacks: true,
-            full: true,
-            generation: 0,
-        };
+        return DriveRoom::Full;
     }
-    room
+    DriveRoom::Emptied(generation)
 }
 
 // No drive has answered yet.
@@ -175,8 +154,7 @@ fn no_answers() -> LogRoom
 {
     LogRoom {
         full: false,
-        emptied: [false; MAX_DRIVES],
-        generations: [0u64; MAX_DRIVES],
+        emptied: [None; MAX_DRIVES],
     }
 }
 
@@ -185,16 +163,14 @@ fn with_answer(all: LogRoom, drive: usize, room: DriveRoom) -> LogRoom
     requires { drive < 8 }
     ensures { result ≡ with_answer all drive room }
 {
-    let full = all.full | room.full;
-    let mut emptied = all.emptied;
-    let mut generations = all.generations;
-    emptied[drive] = room.lacks;
-    generations[drive] = room.generation;
-    LogRoom {
-        full,
-        emptied,
-        generations,
-    }
+    let mut out = all;
+    out.full |= matches!(room, DriveRoom::Full);
+    out.emptied[drive] = match room {
+        DriveRoom::Roomy => None,
+        DriveRoom::Full => Some(0),
+        DriveRoom::Emptied(generation) => Some(generation),
+    };
+    out
 }
 
 // A drive's answer for its general log, by the generations in force.
@@ -210,20 +186,15 @@ fn general_on(
     requires asking { Asking asked sectors.now written.now pointers.now × (drive < asked.first.drives) × (asked.first.zones ≤ length generations.now) }
     ensures { result ≡ general_room_at asked generations.now sectors.now written.now pointers.now drive }
 {
-    let room = room_unsized(sectors, written, pointers, asked, drive);
-    let lacks = room.lacks;
-    let full = room.full;
-    if full | !lacks {
-        return room;
+    match room_unsized(sectors, written, pointers, asked, drive) {
+        DriveRoom::Roomy => DriveRoom::Roomy,
+        DriveRoom::Full => DriveRoom::Full,
+        DriveRoom::Emptied(generation) => {
+            let g = asked.places.geometry;
+            let size = super::emptying::general_size(sectors, pointers, g, drive, generations);
+            with_size(generation, g.capacity, asked.limit, size)
+        }
     }
-    let size = super::emptying::general_size(
-        sectors,
-        pointers,
-        asked.places.geometry,
-        drive,
-        generations,
-    );
-    with_size(room, asked.places.geometry.capacity, asked.limit, size)
 }
 
 // The general logs of all drives.
@@ -251,18 +222,15 @@ pub fn emptyings_of(asked: RoomAsked, room: LogRoom) -> Emptyings
     requires { Valid asked.places.geometry }
     ensures { result ≡ emptyings_of asked room }
 {
-    let places = asked.places;
+    let from = asked.places.geometry;
     let here = asked.here;
-    let from = places.geometry;
     let emptied = room.emptied;
-    let generations = room.generations;
     let to = super::roles::move_logs(from, asked.parity, emptied);
     Emptyings {
         from,
         to,
         here,
         emptied,
-        generations,
     }
 }
 
@@ -279,15 +247,15 @@ fn parity_on(
     requires asking { Asking asked sectors.now written.now pointers.now × (drive < asked.first.drives) × PointersWithin asked.first points.now }
     ensures { result ≡ parity_room_at asked points.now sectors.now written.now pointers.now drive }
 {
-    let room = room_unsized(sectors, written, pointers, asked, drive);
-    let lacks = room.lacks;
-    let full = room.full;
-    if full | !lacks {
-        return room;
+    match room_unsized(sectors, written, pointers, asked, drive) {
+        DriveRoom::Roomy => DriveRoom::Roomy,
+        DriveRoom::Full => DriveRoom::Full,
+        DriveRoom::Emptied(generation) => {
+            let g = asked.first;
+            let size = super::emptying_parity::parity_size(g, drive, points);
+            with_size(generation, g.capacity, asked.limit, size)
+        }
     }
-    let g = asked.first;
-    let size = super::emptying_parity::parity_size(g, drive, points);
-    with_size(room, g.capacity, asked.limit, size)
 }
 
 // The parity logs of all drives.

@@ -73,16 +73,12 @@ pub fn told_number(c: ReportedCondition) -> u64
 pub fn condition_of(number: u64, pointer: usize) -> Condition
     ensures { result ≡ condition_of_number number pointer }
 {
-    if number == 1 {
-        return Condition::Open(pointer);
+    match number {
+        1 => Condition::Open(pointer),
+        2 => Condition::Sealed(pointer),
+        3 => Condition::Worn(pointer),
+        _ => Condition::Empty,
     }
-    if number == 2 {
-        return Condition::Sealed(pointer);
-    }
-    if number == 3 {
-        return Condition::Worn(pointer);
-    }
-    Condition::Empty
 }
 
 // 0 nobody, 1 host 0, 2 host 1.
@@ -100,11 +96,9 @@ pub fn owner_number(o: Owner) -> u32
 pub fn owner_of_number(number: u64) -> Owner
     ensures { result ≡ owner_of_number number }
 {
-    if number == 1 {
-        return Owner::Host0;
+    match number {
+        1 => Owner::Host0,
+        2 => Owner::Host1,
+        _ => Owner::Nobody,
     }
-    if number == 2 {
-        return Owner::Host1;
-    }
-    Owner::Nobody
 }

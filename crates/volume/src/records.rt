@@ -13,43 +13,26 @@ pub fn pointer_of(c: Condition) -> usize
 {
     match c {
         Condition::Empty => 0,
-        Condition::Open(n) => n,
-        Condition::Sealed(n) => n,
-        Condition::Worn(n) => n,
+        Condition::Open(n) | Condition::Sealed(n) | Condition::Worn(n) => n,
     }
 }
 
 pub fn is_empty(c: Condition) -> bool
     ensures { result ≡ is_empty c }
 {
-    match c {
-        Condition::Empty => true,
-        Condition::Open(_) => false,
-        Condition::Sealed(_) => false,
-        Condition::Worn(_) => false,
-    }
+    matches!(c, Condition::Empty)
 }
 
 pub fn is_sealed(c: Condition) -> bool
     ensures { result ≡ is_sealed c }
 {
-    match c {
-        Condition::Empty => false,
-        Condition::Open(_) => false,
-        Condition::Sealed(_) => true,
-        Condition::Worn(_) => false,
-    }
+    matches!(c, Condition::Sealed(_))
 }
 
 pub fn is_worn(c: Condition) -> bool
     ensures { result ≡ is_worn c }
 {
-    match c {
-        Condition::Empty => false,
-        Condition::Open(_) => false,
-        Condition::Sealed(_) => false,
-        Condition::Worn(_) => true,
-    }
+    matches!(c, Condition::Worn(_))
 }
 
 // A record that says nothing: those past the volume's last zone.

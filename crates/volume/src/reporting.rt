@@ -40,9 +40,8 @@ fn told_of(c: Condition) -> ReportedCondition
 {
     match c {
         Condition::Empty => ReportedCondition::Empty,
-        Condition::Open(n) => ReportedCondition::Open,
-        Condition::Sealed(n) => ReportedCondition::ReadOnly,
-        Condition::Worn(n) => ReportedCondition::ReadOnly,
+        Condition::Open(_) => ReportedCondition::Open,
+        Condition::Sealed(_) | Condition::Worn(_) => ReportedCondition::ReadOnly,
     }
 }
 

@@ -13,18 +13,11 @@ ghost use Rattle.volume.specs.laws.LogClaims.{strengths};
 ghost use Rattle.volume.specs.looking.DriveLogs.{Sized};
 ghost use Rattle.volume.specs.looking.Knowing.{read_device};
 ghost use Rattle.volume.specs.looking.HiddenLogs.{places_of, hidden_log, hidden_logs};
-ghost use Rattle.volume.specs.looking.MovedLogs.{zones_after, moved_logs};
+ghost use Rattle.volume.specs.looking.MovedLogs.{is_emptied, zones_after, moved_logs};
 ghost use Rattle.volume.specs.looking.LogZones.{rank, three, moved_claim, home_claim, counting_of, moved_of, ParityClaims, zones_read, zones_by, zones_of};
 
 use logs::Log;
 use tables::{Geometry, MAX_DRIVES};
-
-// A zone as a log of a kind: whether it is one, and of which generation.
-#[derive(Clone, Copy)]
-struct Claim {
-    made: bool,
-    generation: u64,
-}
 
 // What zones claim that are not in their first places: 0, or the generation of a closing entry.
 #[derive(Clone, Copy)]
@@ -36,6 +29,7 @@ struct Moved {
 }
 
 // The counting log of a kind, and whether the drive lacks that kind.
+// kept: no Option, since the zone is needed where the kind lacks, too: every role has a zone of its own.
 #[derive(Clone, Copy)]
 pub struct Counting {
     pub zone: usize,
@@ -43,6 +37,7 @@ pub struct Counting {
 }
 
 // The zones of a drive's two logs, and which kinds it lacks. A log that lacks has a zone all the same, which says nothing.
+// kept: no Options, for the same reason.
 #[derive(Clone, Copy)]
 pub struct LogZones {
     pub general: usize,
@@ -94,78 +89,58 @@ fn moved_claims(sectors: &[u8], written: &[u32], g: Geometry, drive: usize) -> M
     }
 }
 
-// A zone that is not in its first place.
-fn moved_claim(generation: u64) -> Claim
+// A zone that is not in its first place as a log of a kind: its generation there, if it is one.
+fn moved_claim(generation: u64) -> Option<u64>
     ensures { result ≡ moved_claim generation }
 {
-    let made = generation != 0;
-    Claim { made, generation }
+    if generation == 0 {
+        None
+    } else {
+        Some(generation)
+    }
 }
 
-// A zone in its first place, by its claim to be the other log. Its own claim is looked for where another zone makes that claim too (`asked`).
-fn home_claim(sectors: &[u8], g: Geometry, log: Log, parity: bool, other: u64, asked: bool) -> Claim
+// The same of a zone in its first place, by its claim to be the other log. Its own claim is looked for where another zone makes that claim too (`asked`).
+fn home_claim(
+    sectors: &[u8],
+    g: Geometry,
+    log: Log,
+    parity: bool,
+    other: u64,
+    asked: bool,
+) -> Option<u64>
     requires valid { Valid g }
     requires in_log { InLog g log.drive log.zone log.written sectors.now }
     ensures { result ≡ home_claim other asked (first_closing (log_heads g log.drive parity log.zone log.written sectors.now)) }
 {
     if other != 0 {
-        return Claim {
-            made: false,
-            generation: 0,
-        };
+        return None;
     }
     if !asked {
-        return Claim {
-            made: true,
-            generation: 0,
-        };
+        return Some(0);
     }
-    let generation = logs::folds::first_closing(sectors, g, log, parity);
-    Claim {
-        made: true,
-        generation,
-    }
+    Some(logs::folds::first_closing(sectors, g, log, parity))
 }
 
-// Whether a claim is at most as strong as another.
-fn at_most(a: Claim, b: Claim) -> bool
-    ensures { result ≡ leb (rank a) (rank b) }
-{
-    let made = a.made;
-    let generation = a.generation;
-    let other_made = b.made;
-    let other_generation = b.generation;
-    if !made {
-        return true;
-    }
-    other_made & (generation <= other_generation)
-}
-
-// The strongest of zones 0, 1 and 2, at a tie the lower.
-fn strongest_of(first: Claim, second: Claim, third: Claim) -> Counting
+// The strongest of zones 0, 1 and 2, at a tie the lower. No claim is weaker than each claim.
+fn strongest_of(first: Option<u64>, second: Option<u64>, third: Option<u64>) -> Counting
     ensures { result ≡ counting_of (three (rank first) (rank second) (rank third)) }
 {
-    let second_first = at_most(second, first);
-    let third_first = at_most(third, first);
-    let third_second = at_most(third, second);
-    if second_first & third_first {
-        let made = first.made;
+    if second <= first && third <= first {
         return Counting {
             zone: 0,
-            lacks: !made,
+            lacks: first.is_none(),
         };
     }
-    if third_second {
-        let made = second.made;
+    if third <= second {
         return Counting {
             zone: 1,
-            lacks: !made,
+            lacks: second.is_none(),
         };
     }
-    let made = third.made;
     Counting {
         zone: 2,
-        lacks: !made,
+        lacks: third.is_none(),
     }
 }
 
@@ -362,13 +337,13 @@ fn zones_after(g: Geometry, parity: bool, emptied: bool, drive: usize) -> LogZon
 }
 
 // Where the logs lie after those of a kind were emptied on some drives.
-pub fn move_logs(g: Geometry, parity: bool, emptied: [bool; MAX_DRIVES]) -> Geometry
+pub fn move_logs(g: Geometry, parity: bool, emptied: [Option<u64>; MAX_DRIVES]) -> Geometry
     requires { Valid g }
-    ensures { result ≡ with_logs g (moved_logs g parity (is_set emptied) g.drives) }
+    ensures { result ≡ with_logs g (moved_logs g parity (is_emptied emptied) g.drives) }
 {
     let mut logs = 0;
     for d in 0..g.drives {
-        logs += log_bits(zones_after(g, parity, emptied[d], d), d);
+        logs += log_bits(zones_after(g, parity, emptied[d].is_some(), d), d);
     }
     with_logs(g, logs)
 }

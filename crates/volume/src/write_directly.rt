@@ -23,55 +23,45 @@ pub struct WriteMade {
     pub entry: EntryTaken,
 }
 
-// Whether a write needs no log but that of its entry; and the geometry that places that one.
-#[derive(Clone, Copy)]
-pub struct EntryPlace {
-    pub alone: bool,
-    pub geometry: Geometry,
-}
-
-// A drive's parity log: whether it has so much room, and the geometry that places it.
-fn entry_log(sectors: &[u8], written: &[u32], g: Geometry, drive: usize, limit: usize) -> EntryPlace
+// The geometry that places a drive's parity log, if that has so much room.
+fn entry_log(
+    sectors: &[u8],
+    written: &[u32],
+    g: Geometry,
+    drive: usize,
+    limit: usize,
+) -> Option<Geometry>
     requires valid { Valid g }
     requires sized { Sized g sectors.now written.now × (drive < g.drives) }
     ensures { result ≡ entry_log g sectors.now written.now drive limit }
 {
     let log = super::roles::find_parity(sectors, written, g, drive);
-    let lacks = log.lacks;
-    let zone = log.zone;
-    let n = super::drive_logs::zone_pointer(written, g, drive, zone);
-    let c = g.capacity;
-    let alone = !lacks & (limit <= c - n);
-    let geometry = super::roles::place_parity(g, drive, zone);
-    EntryPlace { alone, geometry }
+    let n = super::drive_logs::zone_pointer(written, g, drive, log.zone);
+    if log.lacks | (g.capacity - n < limit) {
+        return None;
+    }
+    Some(super::roles::place_parity(g, drive, log.zone))
 }
 
-// That of a write with this entry, by what is left of its host's share.
+// The geometry that places the log of a write's entry, if the write needs no other; by what is left of its host's share. The tables' own if there is no entry.
 fn entry_place(
     sectors: &[u8],
     written: &[u32],
     g: Geometry,
     share: usize,
     entry: EntryTaken,
-) -> EntryPlace
+) -> Option<Geometry>
     requires valid { Valid g }
     requires sized { Sized g sectors.now written.now × (entry.drive < g.drives) × (entry.sectors ≤ 17) }
     ensures { result ≡ entry_place g share sectors.now written.now entry }
 {
-    let size = entry.sectors;
-    if size == 0 {
-        return EntryPlace {
-            alone: true,
-            geometry: g,
-        };
+    if entry.sectors == 0 {
+        return Some(g);
     }
-    if share < size {
-        return EntryPlace {
-            alone: false,
-            geometry: g,
-        };
+    if share < entry.sectors {
+        return None;
     }
-    let limit = super::write_room::write_limit(g, size);
+    let limit = super::write_room::write_limit(g, entry.sectors);
     entry_log(sectors, written, g, entry.drive, limit)
 }
 
@@ -89,22 +79,24 @@ fn earlier_held(written: &[u32], zone: Zone, n: usize) -> bool
     super::write_stores::earlier_held(written, zone, n)
 }
 
-// That of a write from its zone's pointer on.
-fn place_of(sectors: &[u8], written: &[u32], run: Run, entry: EntryTaken) -> EntryPlace
+// The same of a write from its zone's pointer on.
+fn place_of(sectors: &[u8], written: &[u32], run: Run, entry: EntryTaken) -> Option<Geometry>
     requires valid { Valid run.zone.geometry }
     requires sized { Sized run.zone.geometry sectors.now written.now × (run.zone.number < run.zone.geometry.zones) × (run.pointer ≤ zone_sectors run.zone.geometry) × PointersReach run.zone.geometry run.zone.here written.now run.zone.number run.pointer }
     requires value { (entry ≡ entry_taken_of run.zone (end_of run)) × (entry.drive < run.zone.geometry.drives) × (entry.sectors ≤ 17) }
     ensures { result ≡ direct_place run sectors.now written.now }
 {
-    let g = run.zone.geometry;
     let held = earlier_held(written, run.zone, run.pointer);
     if !held {
-        return EntryPlace {
-            alone: false,
-            geometry: g,
-        };
+        return None;
     }
-    entry_place(sectors, written, g, run.allowance.share, entry)
+    entry_place(
+        sectors,
+        written,
+        run.zone.geometry,
+        run.allowance.share,
+        entry,
+    )
 }
 
 // Its stores, by the geometry that places its entry's log. What is read is read below the written pointers of its start.
@@ -152,11 +144,10 @@ pub fn write_alone(
 {
     super::write_checks::zone_refusal(written, run, c)?;
     let entry = super::write_room::entry_taken(run.zone, run.pointer + run.count);
-    let place = place_of(sectors, written, run, entry);
-    if !place.alone {
+    let Some(to) = place_of(sectors, written, run, entry) else {
         return Ok(None);
-    }
+    };
     let budget = super::checks::budget_of(count);
-    let rest = write_directly(sectors, written, run, place.geometry, buffer, budget);
+    let rest = write_directly(sectors, written, run, to, buffer, budget);
     Ok(Some(WriteMade { rest, entry }))
 }

@@ -10,6 +10,7 @@ use super::roles::LogPlaces;
 use tables::Geometry;
 
 // The drive that gets a write's entry, if the write ends inside a stripe.
+// kept: no Option, since a host's share is that of this drive where there is no entry, too.
 #[derive(Clone, Copy)]
 pub struct EntryDrive {
     pub inside: bool,
@@ -17,6 +18,7 @@ pub struct EntryDrive {
 }
 
 // That drive, and the entry's sectors; 0 if there is no entry, or the drive is not here.
+// kept: an Option would be no plainer: what is taken off a share is told by the drive and the number, and 0 takes nothing off.
 #[derive(Clone, Copy)]
 pub struct EntryTaken {
     pub drive: usize,

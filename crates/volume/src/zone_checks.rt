@@ -28,10 +28,8 @@ fn stale_in(c: Condition, written: usize, needs: usize) -> bool
     ensures { result ≡ stale_in c written needs }
 {
     match c {
-        Condition::Empty => written != needs,
-        Condition::Open(n) => written != needs,
-        Condition::Sealed(n) => written < needs,
-        Condition::Worn(n) => written < needs,
+        Condition::Empty | Condition::Open(_) => written != needs,
+        Condition::Sealed(_) | Condition::Worn(_) => written < needs,
     }
 }
 

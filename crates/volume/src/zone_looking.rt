@@ -1,18 +1,16 @@
 // What a look shows of one zone: rules 2, 3, 5 and 6.
-ghost use Rattle.std.specs.Prelude.{◌≡◌, ◌&&◌, ◌≤◌, ◌<◌, min, eqb};
+ghost use Rattle.std.specs.Prelude.{◌≡◌, ◌≤◌, ◌<◌, min};
 ghost use Rattle.tables.specs.meaning.Basics.{pick};
 ghost use Rattle.tables.specs.meaning.Below.{larger};
 ghost use Rattle.tables.specs.meaning.Geometry.{Valid, zone_sectors};
 ghost use Rattle.logs.specs.meaning.Heads.{generation_in};
-ghost use Rattle.logs.specs.code.Query.{answer};
 ghost use Rattle.volume.specs.meaning.CallContracts.{is_set, zone_look_of};
-ghost use Rattle.volume.specs.meaning.Rules.{general_heads, generation_of, reset_seen, clean_at, condition_of, seal_limit, zone_view, known_prefix, pointer_at, zone_shown};
+ghost use Rattle.volume.specs.meaning.Rules.{general_heads, generation_of, reset_seen, seal_seen, clean_at, condition_of, seal_limit, zone_view, known_prefix, pointer_at, zone_shown};
 ghost use Rattle.volume.specs.looking.DriveLogs.{Sized};
 ghost use Rattle.volume.specs.looking.Knowing.{read_device, Readable};
-ghost use Rattle.volume.specs.looking.ZoneLooking.{drive_clean, told_by};
+ghost use Rattle.volume.specs.looking.ZoneLooking.{drive_clean};
 
 use super::{Condition, Zone, ZoneLook};
-use logs::Query;
 use tables::{Geometry, MAX_DRIVES};
 
 // Rule 2, of one drive.
@@ -53,38 +51,38 @@ pub fn generation_of(
     most
 }
 
-// Whether a drive is present and its general log answers 1 to a question.
-fn drive_tells(
-    query: Query,
-    sectors: &[u8],
-    written: &[u32],
-    g: Geometry,
-    present: bool,
-    d: usize,
-) -> bool
-    requires valid { Valid g }
-    requires sized { Sized g sectors.now written.now × (d < g.drives) }
-    ensures { result ≡ present && eqb (answer g query 0 0 (general_heads g (read_device g sectors.now written.now) d)) 1 }
-{
-    if !present {
-        return false;
-    }
-    super::drive_logs::tells(query, sectors, written, g, d)
-}
-
-// Whether a present drive's general log does: has a reset entry of the current generation (rule 3), or a current seal.
-fn is_told(
-    query: Query,
+// Rule 3: whether a present drive's general log has a reset entry of a zone and generation.
+fn reset_seen(
     sectors: &[u8],
     written: &[u32],
     g: Geometry,
     here: [bool; MAX_DRIVES],
+    z: usize,
+    generation: u64,
 ) -> bool
     requires valid { Valid g }
     requires sized { Sized g sectors.now written.now }
-    ensures { result ≡ told_by g (is_set here) (read_device g sectors.now written.now) query }
+    ensures { result ≡ reset_seen g (is_set here) (read_device g sectors.now written.now) z generation }
 {
-    (0..g.drives).any(|d| drive_tells(query, sectors, written, g, here[d], d))
+    (0..g.drives).any(|d| here[d]
+        && super::drive_logs::has_reset(sectors, written, g, d, z, generation))
+}
+
+// Whether a present drive's general log has a seal of a zone and generation.
+fn seal_seen(
+    sectors: &[u8],
+    written: &[u32],
+    g: Geometry,
+    here: [bool; MAX_DRIVES],
+    z: usize,
+    generation: u64,
+) -> bool
+    requires valid { Valid g }
+    requires sized { Sized g sectors.now written.now }
+    ensures { result ≡ seal_seen g (is_set here) (read_device g sectors.now written.now) z generation }
+{
+    (0..g.drives).any(|d| here[d]
+        && super::drive_logs::has_seal(sectors, written, g, d, z, generation))
 }
 
 // Rule 6, of one drive: it has no more sectors than pointer q needs, and no current partial parity entry, whole or torn, that ends past it.
@@ -182,7 +180,7 @@ pub fn look_zone(
     ensures { result ≡ zone_look_of (zone_shown g (is_set here) (read_device g sectors.now written.now) z) }
 {
     let generation = generation_of(sectors, written, g, here, z);
-    let by_reset = is_told(Query::ResetOf(z, generation), sectors, written, g, here);
+    let by_reset = reset_seen(sectors, written, g, here, z, generation);
     let zone = Zone {
         geometry: g,
         here,
@@ -191,7 +189,7 @@ pub fn look_zone(
     };
     let pointer = pointer_at(sectors, written, zone, by_reset);
     let clean = is_clean(sectors, written, zone, pointer);
-    let sealed = is_told(Query::SealOf(z, generation), sectors, written, g, here);
+    let sealed = seal_seen(sectors, written, g, here, z, generation);
     let condition = condition_of(generation, pointer, clean, sealed);
     ZoneLook {
         generation,

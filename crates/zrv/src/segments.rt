@@ -37,6 +37,8 @@ pub extern "C" fn zrv_grouped_read(
 {
     let s = segment(drives, block_bytes, group, blocks_per_drive);
     let here = super::input::named_drives(named);
-    let number = grouped::reading::read_grouped(blocks, metadata, work, s, here, address, answer);
-    number as u64
+    match grouped::reading::read_grouped(blocks, metadata, work, s, here, address, answer) {
+        Ok(()) => 0,
+        Err(refusal) => refusal.number() as u64,
+    }
 }

@@ -1,16 +1,14 @@
 -- A read depends on nothing but what the drives hold of the stripes: where two segments hold the same, block by block, an address names the same.
-use Rattle.std.specs.Prelude.{◌≡◌, Bool, true, false, ◌&&◌, ℕ, zero, suc, ◌-◌, ◌≤◌, ◌<◌, List, ltb, eqb}
+use Rattle.std.specs.Prelude.{◌≡◌, Bool, ◌&&◌, ℕ, zero, suc, ◌≤◌, ◌<◌, List, ltb, eqb}
 use Rattle.std.proofs.Math.Path.{refl, ap, ap₂}
-use Rattle.std.proofs.Common.{sym, ◌∙◌, le_refl, arith}
+use Rattle.std.proofs.Common.{le_refl, arith}
 use Rattle.std.proofs.Math.Bool.{not}
-use Rattle.tables.specs.meaning.Basics.{pick}
-use Rattle.tables.specs.meaning.Below.{any_below}
 use Rattle.tables.specs.laws.Below.{any_below_cong}
 use Rattle.grouped.specs.declared.Segment.{Segment}
 use Rattle.grouped.specs.meaning.Segment.{total_blocks}
 use Rattle.grouped.specs.meaning.Stripes.{address_of, timestamp_of, block_of}
 use Rattle.grouped.specs.meaning.Reading.{filler, address_in, timestamp_in, is_data, counts, alike, some_alike, is_later, later_of, newest_below, newest, block_in}
-use Rattle.grouped.specs.places.Placed.{Cell, cell}
+use Rattle.grouped.specs.places.Placed.{cell}
 use Rattle.grouped.specs.reading.Later.{newest_most}
 
 -- blocks xs and metadata ms with drive x missing, and ys and ns with y missing

@@ -1,7 +1,7 @@
 -- The missing drive's memory is never read: two inputs that differ only in its blocks and its metadata get the same answer and leave the same buffer.
 use Rattle.std.specs.Prelude.{◌≡◌, ◌≢◌, Bool, ◌&&◌, List, [], ◌∷◌, length, take, drop}
 use Rattle.std.proofs.Math.Path.{refl, ap}
-use Rattle.std.proofs.Common.{sym, ap₂, ◌∙◌, take-take, drop-drop, eqb-true, eq-eqb, ne_eqb}
+use Rattle.std.proofs.Common.{sym, ◌∙◌, take-take, drop-drop, eq-eqb}
 use Rattle.std.proofs.Math.Bool.{true, false, not}
 use Prim.Native.Nat.{ℕ, zero, suc, ◌+◌, ◌-◌, ◌*◌, ◌/◌, ◌%◌, ◌≤◌, ◌<◌}
 use native.Mathlib.Omega.{arith}
@@ -12,15 +12,14 @@ use Rattle.tables.specs.meaning.Basics.{pick}
 use Rattle.tables.specs.meaning.Below.{any_below, count_below}
 use Rattle.tables.specs.meaning.LittleEndian.{number_le}
 use Rattle.tables.specs.meaning.Tables.{sector_no}
-use Rattle.tables.specs.meaning.Xor.{xor_below, without}
+use Rattle.tables.specs.meaning.Xor.{without}
 use Rattle.tables.specs.laws.Below.{any_below_cong, count_below_cong}
 use Rattle.tables.specs.laws.Xor.{xor_below_cong, without_self, without_other}
 use Rattle.grouped.specs.declared.Segment.{Segment}
-use Rattle.grouped.specs.meaning.Segment.{total_blocks, record_bytes, missing_drive}
+use Rattle.grouped.specs.meaning.Segment.{record_bytes, missing_drive}
 use Rattle.grouped.specs.meaning.Stripes.{block_address, timestamp_at, id_at, of_stripe, wrong_drive, wrong_i_ds, last_below, block_place, xor_numbers, except, address_of, timestamp_of, block_of}
-use Rattle.grouped.specs.meaning.Reading.{request, numbers_refused, metadata_number, newest, grouped_number, grouped_left, block_in}
-use Rattle.grouped.specs.places.Placed.{place_within, last_there}
-use Rattle.grouped.specs.laws.Pigeonhole.{last_most}
+use Rattle.grouped.specs.meaning.Reading.{request, grouped_number, grouped_left}
+use Rattle.grouped.specs.places.Placed.{place_within}
 use Rattle.grouped.specs.laws.Holdings.{SameHeld}
 use Rattle.grouped.specs.reading.SameCall.{same_call}
 

@@ -1,15 +1,14 @@
 -- The bounds of a segment as facts, and its sizes.
-use Rattle.std.specs.Prelude.{◌≡◌, refl, Bool, true, false, ◌&&◌, ℕ, zero, suc, ◌+◌, ◌*◌, ◌/◌, ◌%◌, ◌≤◌, ◌<◌, List, length, eqb}
-use Rattle.std.proofs.Common.{sym, ◌∙◌, true≢false, mul-le-mul, div-add-mod', div-lt_iff_lt-mul, arith, leb-true, eqb-true, ne_eqb}
+use Rattle.std.specs.Prelude.{◌≡◌, refl, Bool, true, false, ℕ, zero, suc, ◌+◌, ◌*◌, ◌/◌, ◌%◌, ◌≤◌, ◌<◌, List, length}
+use Rattle.std.proofs.Common.{sym, ◌∙◌, true≢false, mul-le-mul, div-add-mod', div-lt_iff_lt-mul, arith, leb-true, ne_eqb}
 use Rattle.std.proofs.Math.Decide.{dec_lt}
 use Rattle.std.proofs.Math.Arith.{digits_lt}
-use Rattle.tables.specs.laws.Basics.{and_split}
 use Rattle.tables.specs.laws.GeometryTest.{all_at}
 use Rattle.tables.specs.meaning.Basics.{pick}
 use Rattle.tables.specs.meaning.Drives.{find_below}
 use Rattle.tables.specs.meaning.GeometryTest.{all, sector_size}
 use Rattle.grouped.specs.declared.Segment.{Segment}
-use Rattle.grouped.specs.meaning.Segment.{segment_bounds, is_segment, ranges_fit, total_blocks}
+use Rattle.grouped.specs.meaning.Segment.{segment_bounds, total_blocks}
 
 pub record Valid (s : Segment) : Type 0 where
   pub drives_least : 3 ≤ s.drives

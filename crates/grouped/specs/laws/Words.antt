@@ -1,6 +1,6 @@
 -- The numbers of the work table, four bytes each: one that is set reads back, the others stay.
-use Rattle.std.specs.Prelude.{◌≡◌, refl, ◌≢◌, ℕ, zero, suc, ◌+◌, ◌*◌, ◌^◌, ◌≤◌, ◌<◌, List, [], length, get_or, take, drop, replicate}
-use Rattle.std.proofs.Common.{sym, ap, ◌∙◌, arith}
+use Rattle.std.specs.Prelude.{◌≡◌, refl, ◌≢◌, ℕ, zero, suc, ◌+◌, ◌*◌, ◌≤◌, ◌<◌, List, [], length, get_or, take, drop, replicate}
+use Rattle.std.proofs.Common.{sym, ◌∙◌, arith}
 use Rattle.std.proofs.Math.Decide.{dec_lt}
 use Rattle.tables.specs.laws.Lists.{length_overlay, overlay_below, overlay_above}
 use Rattle.tables.specs.laws.LittleEndian.{read_from, read_bytes_lem, read_write, write_le}

@@ -1,26 +1,25 @@
 -- Where the stripes' blocks lie, as the code notes it in the work table's first half: number d × N + n is one more than the offset of stripe n's block on
 -- drive d, 0 if there is none.
-use Rattle.std.specs.Prelude.{◌≡◌, ◌≢◌, ◌⊎◌, ◌&&◌, not, ℕ, zero, suc, ◌+◌, ◌-◌, ◌*◌, ◌/◌, ◌%◌, ◌≤◌, ◌<◌, List, replicate, eqb}
+use Rattle.std.specs.Prelude.{◌≡◌, ◌≢◌, ◌⊎◌, ◌&&◌, ℕ, zero, suc, ◌+◌, ◌*◌, ◌/◌, ◌%◌, ◌≤◌, ◌<◌, List, replicate, eqb}
 use Rattle.std.proofs.Math.Path.{refl}
-use Rattle.std.proofs.Common.{sym, ap, ◌∙◌, inl, inr, true≢false, mod-lt, mul-le-mul_right, div-add-mod', le_refl, add-one, leb-true, leb-false, eq-eqb, ne_eqb, eqb-true}
+use Rattle.std.proofs.Common.{sym, ap, ◌∙◌, inl, inr, mod-lt, mul-le-mul_right, div-add-mod', le_refl, add-one, leb-true, leb-false, eq-eqb, ne_eqb, eqb-true}
 use Rattle.std.proofs.Math.Bool.{Bool, true, false}
-use Rattle.std.proofs.Math.Decide.{ℕ_discrete, dec_lt}
+use Rattle.std.proofs.Math.Decide.{ℕ_discrete}
 use native.Mathlib.Omega.{arith}
 use Rattle.std.proofs.Math.ListN.{length}
 use Rattle.std.proofs.lemmas.List.{length-replicate}
 use Rattle.std.proofs.Math.Arith.{digits_div, digits_mod}
 use Rattle.std.proofs.Math.Dec.{leb}
-use Rattle.std.proofs.lemmas.Bool.{eqb-false}
 use Rattle.tables.specs.meaning.Basics.{pick}
-use Rattle.tables.specs.meaning.Below.{any_below, count_below}
+use Rattle.tables.specs.meaning.Below.{any_below}
 use Rattle.tables.specs.laws.Basics.{and_split, and_join}
-use Rattle.tables.specs.laws.Below.{count_below_one, any_below_cong, any_below_false}
+use Rattle.tables.specs.laws.Below.{count_below_one, any_below_cong}
 use Rattle.grouped.specs.declared.Segment.{Segment}
 use Rattle.grouped.specs.meaning.Segment.{total_blocks}
-use Rattle.grouped.specs.meaning.Stripes.{id_at, of_stripe, wrong_drive, wrong_i_ds, last_below, block_place}
-use Rattle.grouped.specs.laws.Segment.{Valid, Sized, stripe_in_lem, cell_in, total_small}
+use Rattle.grouped.specs.meaning.Stripes.{id_at, of_stripe, wrong_drive, last_below}
+use Rattle.grouped.specs.laws.Segment.{Valid, stripe_in_lem, cell_in}
 use Rattle.grouped.specs.laws.Words.{word, set_word, length_set_word, word_set, word_set_other, word_cleared}
-use Rattle.grouped.specs.laws.Pigeonhole.{wrong_is_lacking, last_count, last_most}
+use Rattle.grouped.specs.laws.Pigeonhole.{wrong_is_lacking}
 
 -- ---- a block is of one stripe at most, that of its ID in its group
 unfoldable pub stripe_at : Segment → List ℕ → ℕ → ℕ → ℕ

@@ -1,6 +1,6 @@
 -- The block that is read, as the code makes it from where the work table says that the blocks lie.
-use Rattle.std.specs.Prelude.{◌≡◌, refl, ◌≢◌, Bool, true, false, ℕ, zero, suc, ◌+◌, ◌-◌, ◌*◌, ◌/◌, ◌%◌, ◌≤◌, ◌<◌, List, [], ◌∷◌, take, drop, replicate, eqb}
-use Rattle.std.proofs.Common.{sym, ap, ap₂, ◌∙◌, suc-le-suc, mul-le-mul_right, le_refl, le_trans, arith, length-drop, length-take-le, eqb-true}
+use Rattle.std.specs.Prelude.{◌≡◌, refl, ◌≢◌, Bool, true, false, ℕ, zero, suc, ◌*◌, ◌/◌, ◌%◌, ◌≤◌, ◌<◌, List, [], ◌∷◌, drop, replicate, eqb}
+use Rattle.std.proofs.Common.{sym, ap, ◌∙◌, suc-le-suc, mul-le-mul_right, le_refl, le_trans, arith, length-drop, length-take-le, eqb-true}
 use Rattle.std.proofs.Math.Decide.{ℕ_discrete}
 use Rattle.std.proofs.Math.ListN.{length}
 use Rattle.std.proofs.lemmas.List.{length-replicate}
@@ -11,7 +11,7 @@ use Rattle.tables.specs.meaning.Xor.{xor_bytes, xor_below, without}
 use Rattle.tables.specs.laws.Xor.{xor_nil, xor_row_suc, xor_zeros, xor_below_cong, xor_below_length, length_xor, xor_bytes_comm, without_self, without_other}
 use Rattle.grouped.specs.declared.Segment.{Segment}
 use Rattle.grouped.specs.meaning.Segment.{total_blocks}
-use Rattle.grouped.specs.meaning.Stripes.{block_place, wrong_i_ds, block_of}
+use Rattle.grouped.specs.meaning.Stripes.{block_place, block_of}
 use Rattle.grouped.specs.meaning.Reading.{block_in, metadata_number}
 use Rattle.grouped.specs.places.Placed.{Placed, Found, place_in, place_is, place_in_total, Cell, cell}
 

@@ -1,15 +1,15 @@
 -- The call as a whole: which row of the refusals applies, and what it leaves.
 use Rattle.std.specs.Prelude.{◌≡◌, ◌≢◌, Bool, true, false, ◌&&◌, ℕ, ◌-◌, ◌*◌, ◌%◌, List, length, eqb}
 use Rattle.std.proofs.Math.Path.{refl}
-use Rattle.std.proofs.Common.{sym, ap, ap₂, ◌∙◌, arith}
-use borrow.Author.Tests.{eq-eqb, ne_eqb, eqb-true}
+use Rattle.std.proofs.Common.{arith}
+use borrow.Author.Tests.{ne_eqb, eqb-true}
 use Rattle.tables.specs.meaning.Basics.{pick}
 use Rattle.tables.specs.meaning.GeometryTest.{all}
 use Rattle.tables.specs.laws.Basics.{and_split}
 use Rattle.grouped.specs.declared.Segment.{Segment}
 use Rattle.grouped.specs.meaning.Segment.{segment_bounds, is_segment, ranges_fit, two_missing, missing_drive, total_blocks}
-use Rattle.grouped.specs.meaning.Reading.{Request, numbers_refused, metadata_number, address_number, newest, number_or, grouped_number, grouped_left, block_in}
-use Rattle.grouped.specs.laws.Segment.{Valid, Sized, ranged}
+use Rattle.grouped.specs.meaning.Reading.{Request, numbers_refused, metadata_number, address_number, newest, grouped_number, grouped_left, block_in}
+use Rattle.grouped.specs.laws.Segment.{Valid, ranged}
 
 pub valid_if : (s : Segment) → is_segment s ≡ true → Valid s
 unfolding is_segment

@@ -1,6 +1,6 @@
 -- Which of two blocks an address names, case by case.
 use Rattle.std.specs.Prelude.{◌≡◌, refl, ◌≢◌, Bool, true, false, ◌&&◌, ℕ, zero, suc, ◌≤◌, List, ltb, eqb}
-use Rattle.std.proofs.Common.{sym, ap, ◌∙◌, arith, eq-eqb, ne_eqb}
+use Rattle.std.proofs.Common.{arith, eq-eqb, ne_eqb}
 use Rattle.tables.specs.meaning.Basics.{pick}
 use Rattle.grouped.specs.declared.Segment.{Segment}
 use Rattle.grouped.specs.meaning.Reading.{filler, address_in, timestamp_in, is_data, counts, is_later, later_of, newest_below}

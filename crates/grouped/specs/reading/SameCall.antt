@@ -1,6 +1,6 @@
 -- Two calls of which the input is refused alike, whose stripe IDs are wrong alike and which hold the same answer alike.
 use Rattle.std.proofs.Math.Path.{◌≡◌, refl, sym}
-use Rattle.std.proofs.Common.{ap, ap₂, ◌∙◌, arith, ne_eqb, eq-eqb}
+use Rattle.std.proofs.Common.{ap, ◌∙◌, arith}
 use Rattle.std.specs.Prelude.{Bool, ℕ, zero, suc, ◌-◌, ◌≤◌, ◌<◌, List, length, eqb}
 use Rattle.std.proofs.Math.Bool.{true, false}
 use Rattle.std.proofs.Math.Decide.{ℕ_discrete}
@@ -8,7 +8,7 @@ use Rattle.tables.specs.meaning.Basics.{pick}
 use Rattle.grouped.specs.declared.Segment.{Segment}
 use Rattle.grouped.specs.meaning.Segment.{missing_drive, total_blocks}
 use Rattle.grouped.specs.meaning.Stripes.{wrong_i_ds}
-use Rattle.grouped.specs.meaning.Reading.{request, numbers_refused, metadata_number, address_number, newest, newest_below, some_alike, grouped_number, grouped_left, block_in}
+use Rattle.grouped.specs.meaning.Reading.{request, numbers_refused, metadata_number, newest, some_alike, grouped_number, grouped_left, block_in}
 use Rattle.grouped.specs.laws.Holdings.{SameHeld, same_some_alike, same_newest, same_blocks}
 use Rattle.grouped.specs.reading.Later.{newest_most}
 use Rattle.grouped.specs.reading.Call.{refused_left, finished_left_lem, by_input, by_metadata, by_address}

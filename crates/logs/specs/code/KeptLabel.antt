@@ -1,21 +1,18 @@
 -- The label that is kept of a general log that is emptied (Copies' `kept_label`), as a walk finds it: the last one, with the array number with
 -- which the log begins.
-use Rattle.std.specs.Prelude.{◌≡◌, refl, Bool, false, ℕ, ◌≤◌, ◌<◌, List, [], ◌∷◌, map, length}
-use Rattle.std.proofs.Common.{sym, ap, ◌∙◌, inl, inr, arith}
+use Rattle.std.specs.Prelude.{◌≡◌, refl, false, ℕ, suc, ◌+◌, ◌≤◌, ◌<◌, List, [], ◌∷◌}
+use Rattle.std.proofs.Common.{ap, ◌∙◌, inl, inr, arith}
 use Rattle.tables.specs.declared.Geometry.{Geometry}
 use Rattle.tables.specs.meaning.Drives.{no_drive}
 use Rattle.logs.specs.declared.Found.{Found}
 use Rattle.logs.specs.declared.Found.TheVariants.{Bad, Label, Counters, Resets, Partial, Seal, Closing}
-use Rattle.logs.specs.declared.Step.TheVariants.{Left, Whole}
-use Rattle.logs.specs.declared.WalkEnd.{WalkEnd}
-use Rattle.logs.specs.meaning.Entry.{Header, label, counters, zone_reset, partial_parity, seal, closing, Entry}
-use Rattle.logs.specs.meaning.Walk.{Walked, walk_log}
+use Rattle.logs.specs.meaning.Entry.{Header, label, counters, zone_reset, partial_parity, seal, closing, rows_of}
+use Rattle.logs.specs.meaning.Walk.{walk_log}
 use Rattle.logs.specs.meaning.Heads.{last_lost}
 use Rattle.logs.specs.meaning.Copies.{last_label, array_for, kept_label}
 use Rattle.logs.specs.code.Judge.{seen}
-use Rattle.logs.specs.code.WalkCode.{left_at}
-use Rattle.logs.specs.code.Steps.{step_of, step_left, step_taken}
-use Rattle.logs.specs.code.Query.{head_of, heads_of, first_seen}
+use Rattle.logs.specs.code.Query.{heads_of, first_seen}
+use Rattle.logs.specs.code.Folding.{fold_heads}
 use Rattle.logs.specs.code.Answers.{NamesDrive, lost_names}
 
 -- ---- the last label so far, after what was found next
@@ -150,12 +147,7 @@ label_fits g d ss h =
     let hs = heads_of (walk_log g d false ss) in
     relabelled_fits g (first_seen hs) (last_label_seen Bad hs) h (rw (lost_seen_lem Bad hs) (lost_names g d ss))
 
--- ---- step by step of the walk
-module _ (g : Geometry) (d : ℕ) (par : Bool) (ss : List (List ℕ)) (p : ℕ) (h : p ≤ length ss) (l : Found) where
-  pub label_left : (w : WalkEnd) → step_of g p (left_at g d par ss p) ≡ Left w → last_label_seen l (heads_of (left_at g d par ss p)) ≡ l
-  label_left w e = ap (λ (es : List Entry). last_label_seen l (map head_of es)) (step_left g d par ss p h w e)
-
-  pub label_on : (f : Found) (q : ℕ) → step_of g p (left_at g d par ss p) ≡ Whole f q → last_label_seen l (heads_of (left_at g d par ss p)) ≡ last_label_seen (later_label f l) (heads_of (left_at g d par ss q))
-  label_on f q e =
-      let t = step_taken g d par ss p h f q e in
-      ap (λ (w : Walked). last_label_seen l (heads_of w)) t.on ∙ ap (λ (k : Found). last_label_seen (later_label k l) (heads_of (left_at g d par ss q))) (sym t.seen_is)
+-- ---- a fold finds it
+pub last_label_fold : (g : Geometry) (p : ℕ) (l : Found) (hs : List Header) → fold_heads g (λ l p f. later_label f l) p l hs ≡ last_label_seen l hs
+last_label_fold g p l [] = refl
+last_label_fold g p l (h ∷ hs) = last_label_fold g (p + suc (rows_of g h)) (later_label (seen h) l) hs

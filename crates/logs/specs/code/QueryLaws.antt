@@ -1,14 +1,11 @@
--- The fold, step by step of the walk: left where the walk is left, carried on at a whole entry. And the first closing entry, where the
--- walk need go no further.
-use Rattle.std.specs.Prelude.{◌≡◌, refl, ◌≢◌, Bool, true, ℕ, ◌*◌, ◌≤◌, ◌<◌, List, [], ◌∷◌, map, length, get_or}
-use Rattle.std.proofs.Common.{sym, ap, ap₂, ◌∙◌, arith}
+-- What a step of the walk finds has an end that the code can compute. And the first closing entry, where the walk need go no further.
+use Rattle.std.specs.Prelude.{◌≡◌, refl, Ok, Err, ◌≢◌, Bool, true, ℕ, ◌*◌, ◌≤◌, ◌<◌, List, [], ◌∷◌, map, length, get_or}
+use Rattle.std.proofs.Common.{sym, ap, ◌∙◌, arith}
 use Rattle.tables.specs.declared.Geometry.{Geometry}
 use Rattle.tables.specs.meaning.Geometry.{stripe_sectors, zone_sectors}
 use Rattle.logs.specs.declared.Found.{Found}
 use Rattle.logs.specs.declared.Found.TheVariants.{Bad, Label, Counters, Resets, Partial, Seal, Closing}
-use Rattle.logs.specs.declared.Step.TheVariants.{Left, Whole}
 use Rattle.logs.specs.declared.WalkEnd.{WalkEnd}
-use Rattle.logs.specs.declared.Query.{Query}
 use Rattle.logs.specs.meaning.Entry.{Header, label, counters, zone_reset, partial_parity, seal, closing, Entry, fits_log}
 use Rattle.logs.specs.laws.Entry.{decode_legal}
 use Rattle.logs.specs.meaning.Walk.{Walked}
@@ -16,7 +13,7 @@ use Rattle.logs.specs.code.Judge.{seen, partial_small, closing_fits}
 use Rattle.logs.specs.code.WalkCode.{left_at}
 use Rattle.logs.specs.code.Steps.{step_of, step_left, step_taken}
 use Rattle.logs.specs.meaning.Heads.{first_closing}
-use Rattle.logs.specs.code.Query.{head_of, heads_of, closing_seen, after, answer}
+use Rattle.logs.specs.code.Query.{head_of, heads_of, closing_seen}
 
 -- an end that the code can compute
 abbrev pub SmallSeen : Geometry → Found → Type 0
@@ -36,25 +33,11 @@ small_seen g d par (partial_parity z s f n) e = let k = partial_small g d par z 
 small_seen g d par (seal z p n) e = tt
 small_seen g d par (closing kind gen) e = tt
 
-module _ (g : Geometry) (d : ℕ) (par : Bool) (ss : List (List ℕ)) (query : Query) (p x : ℕ) where
-  -- what is left of the fold at p
-  abbrev pub answer_at : ℕ
-  answer_at = answer g query p x (heads_of (left_at g d par ss p))
-
-  pub answer_left : p ≤ length ss → (w : WalkEnd) → step_of g p (left_at g d par ss p) ≡ Left w → answer_at ≡ x
-  answer_left h w e = ap (λ (es : List Entry). answer g query p x (map (λ (e : Entry). e.head) es)) (step_left g d par ss p h w e)
-
-  module _ (h : p ≤ length ss) (f : Found) (q : ℕ) (e : step_of g p (left_at g d par ss p) ≡ Whole f q) where
-    pub answer_whole : answer_at ≡ answer g query q (after g query p f x) (heads_of (left_at g d par ss q))
-    answer_whole =
-        let t = step_taken g d par ss p h f q e in
-        ap (λ (l : Walked). answer g query p x (heads_of l)) t.on
-        ∙ ap₂ (λ (y : ℕ) (k : Found). answer g query y (after g query p k x) (heads_of (left_at g d par ss q))) (sym t.next_is) (sym t.seen_is)
-
-    pub whole_small : SmallSeen g f
-    whole_small =
-        let t = step_taken g d par ss p h f q e in
-        rw t.seen_is (small_seen g d par t.entry.head (decode_legal g d par (get_or ss p []) t.entry.head t.stands.reads).1)
+-- what a step finds is one
+pub whole_small : (g : Geometry) (d : ℕ) (par : Bool) (ss : List (List ℕ)) (p : ℕ) → p ≤ length ss → (f : Found) (q : ℕ) → step_of g p (left_at g d par ss p) ≡ Ok (f, q) → SmallSeen g f
+whole_small g d par ss p h f q e =
+    let t = step_taken g d par ss p h f q e in
+    rw t.seen_is (small_seen g d par t.entry.head (decode_legal g d par (get_or ss p []) t.entry.head t.stands.reads).1)
 
 -- ---- the first closing entry: the first header is one, or it is among the others
 closing_first : (x : Header) (hs : List Header) → closing_seen (seen x) ≢ 0 → first_closing (x ∷ hs) ≡ closing_seen (seen x)
@@ -74,10 +57,10 @@ closing_later g d par (seal z p m) hs f n = refl
 closing_later g d par (closing kind gen) hs f n = absurd (omega (arith, (closing_fits g d par kind gen f).1, n))
 
 module _ (g : Geometry) (d : ℕ) (par : Bool) (ss : List (List ℕ)) (p : ℕ) (h : p ≤ length ss) where
-  pub closing_left : (w : WalkEnd) → step_of g p (left_at g d par ss p) ≡ Left w → first_closing (heads_of (left_at g d par ss p)) ≡ 0
+  pub closing_left : (w : WalkEnd) → step_of g p (left_at g d par ss p) ≡ Err w → first_closing (heads_of (left_at g d par ss p)) ≡ 0
   closing_left w e = ap (λ (es : List Entry). first_closing (map head_of es)) (step_left g d par ss p h w e)
 
-  module _ (f : Found) (q : ℕ) (e : step_of g p (left_at g d par ss p) ≡ Whole f q) where
+  module _ (f : Found) (q : ℕ) (e : step_of g p (left_at g d par ss p) ≡ Ok (f, q)) where
     pub closing_here : closing_seen f ≢ 0 → first_closing (heads_of (left_at g d par ss p)) ≡ closing_seen f
     closing_here n =
         let t = step_taken g d par ss p h f q e in

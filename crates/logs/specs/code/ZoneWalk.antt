@@ -1,6 +1,6 @@
 -- A log in its zone's own bytes: what the reader is laid over. The zone's part of the lent bytes has the sectors that the lent bytes have at
 -- that zone, so the walk of the one, and each step of it, is that of the other.
-use Rattle.std.specs.Prelude.{◌≡◌, Bool, ℕ, suc, ◌+◌, ◌-◌, ◌*◌, ◌≤◌, ◌<◌, List, length, take, drop}
+use Rattle.std.specs.Prelude.{◌≡◌, Result, Bool, ℕ, suc, ◌+◌, ◌-◌, ◌*◌, ◌≤◌, ◌<◌, List, length, take, drop}
 use Rattle.std.proofs.Common.{sym, ap, ◌∙◌, mul-le-mul, mul-le-mul_right, mul_assoc, suc-mul, arith, length-drop, length-take-le, take-add, take-take, drop_at, drop-drop}
 use Rattle.tables.specs.declared.Geometry.{Geometry}
 use Rattle.tables.specs.meaning.Geometry.{Valid, physical_zones, cells, total_bytes}
@@ -8,7 +8,7 @@ use Rattle.tables.specs.meaning.Tables.{sector_no, cell}
 use Rattle.tables.specs.laws.Tables.{cell_in}
 use Rattle.tables.specs.meaning.Below.{tabulate}
 use Rattle.tables.specs.laws.Below.{tabulate_cong}
-use Rattle.logs.specs.declared.Step.{Step}
+use Rattle.logs.specs.declared.Found.{Found}
 use Rattle.logs.specs.declared.WalkEnd.{WalkEnd}
 use Rattle.logs.specs.meaning.Walk.{walk_log}
 use Rattle.logs.specs.code.WalkCode.{InLog, log_sectors, walk_end_of, end_place, left_at}
@@ -29,7 +29,7 @@ pub record LegalEnd (g : Geometry) (drive : ℕ) (parity : Bool) (n : ℕ) (byte
   pub within : end_place w ≤ n
 
 -- the step of the walk at sector p
-unfoldable pub step_in_zone : Geometry → ℕ → Bool → ℕ → List ℕ → ℕ → Step
+unfoldable pub step_in_zone : Geometry → ℕ → Bool → ℕ → List ℕ → ℕ → Result (Found × ℕ) WalkEnd
 step_in_zone g drive parity n bytes p = step_of g p (left_at g drive parity (sectors_in g.sector bytes n) p)
 
 -- the bytes of a zone, of all that are lent

@@ -1,6 +1,6 @@
-use Rattle.std.proofs.Common.{◌-◌}
+use Rattle.std.proofs.Common.{length}
 use Rattle.replay.proofs.replay.Given as goal
 
--- each command ends behind its beginning
-abbrev pub decreases-loop-at : goal.decreases-loop-at
-decreases-loop-at g l = l.n - l.at
+-- each command's text is at least its letter
+abbrev pub decreases-loop-c : goal.decreases-loop-c
+decreases-loop-c g l = length l.rest

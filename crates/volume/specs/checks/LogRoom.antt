@@ -1,6 +1,6 @@
 -- The room of the logs of a kind, as the code asks for it (src/log_room.rt): which are emptied, which of those stay full, and the generations of the new logs.
 -- By the rules: `emptied_for`, and refusal 14.
-use Rattle.std.specs.Prelude.{◌≡◌, refl, ◌≢◌, Bool, ◌&&◌, ◌||◌, length, get_or, set, replicate}
+use Rattle.std.specs.Prelude.{◌≡◌, refl, ◌≢◌, Bool, ◌&&◌, ◌||◌, length, get_or, set, replicate, Option, Some, None, is_some}
 use Rattle.std.proofs.Common.{sym, ◌∙◌, true≢false, arith, add-one, lt-ltb, le-ltb, eq-eqb, ne_eqb}
 use Rattle.std.proofs.Math.Path.{ap, ap₂}
 use Rattle.std.proofs.Math.Bool.{true, false, not}
@@ -24,9 +24,10 @@ use Rattle.volume.specs.declared.Zone.{Zone}
 use Rattle.volume.specs.declared.roles.LogPlaces.{LogPlaces}
 use Rattle.volume.specs.declared.log_room.RoomAsked.{RoomAsked}
 use Rattle.volume.specs.declared.log_room.DriveRoom.{DriveRoom}
+use Rattle.volume.specs.declared.log_room.DriveRoom.TheVariants.{Roomy, Full, Emptied}
 use Rattle.volume.specs.declared.log_room.LogRoom.{LogRoom}
 use Rattle.volume.specs.declared.emptyings.Emptyings.{Emptyings}
-use Rattle.volume.specs.looking.MovedLogs.{moved_logs}
+use Rattle.volume.specs.looking.MovedLogs.{is_emptied, generation_or_0, new_generation, moved_logs}
 use Rattle.volume.specs.meaning.CallContracts.{view_state, is_set, roles_of, seen_in}
 use Rattle.volume.specs.meaning.Content.{inside_stripe, fill_of, parity_drive_at}
 use Rattle.volume.specs.meaning.Rules.{general_heads}
@@ -42,13 +43,25 @@ use Rattle.volume.specs.looking.Knowing.{read_device}
 use Rattle.volume.specs.emptying.GeneralCopies.{by_generations}
 use Rattle.volume.specs.emptying.ParityCopies.{by_pointers}
 
--- ---- a drive's answer: its log lacks room, it stays full, and the generation of its new log
+-- ---- a drive's answer: whether its log lacks room; if so, whether it stays full, and else the generation of its new log
 abbrev pub drive_room_of : Bool → Bool → ℕ → DriveRoom
-drive_room_of lacks full zone_claim = record { lacks = lacks; full = lacks && full; generation = pick (lacks && not full) zone_claim 0 }
+drive_room_of lacks full zone_claim = pick lacks (pick full Full (Emptied zone_claim)) Roomy
+
+-- it stays full
+abbrev pub full_in : DriveRoom → Bool
+full_in Roomy = false
+full_in Full = true
+full_in (Emptied n) = false
+
+-- if its log lacks room, the generation of its new log; 0 where it stays full
+abbrev pub emptied_in : DriveRoom → Option ℕ
+emptied_in Roomy = None
+emptied_in Full = Some 0
+emptied_in (Emptied n) = Some n
 
 -- that of the drives below n
 abbrev pub room_of : (ℕ → DriveRoom) → ℕ → LogRoom
-room_of f n = record { full = any_below (λ d. (f d).full) n; emptied = tabulate (λ d. (f d).lacks) n ++ replicate (max_drives - n) false; generations = tabulate (λ d. (f d).generation) n ++ replicate (max_drives - n) 0 }
+room_of f n = record { full = any_below (λ d. full_in (f d)) n; emptied = tabulate (λ d. emptied_in (f d)) n ++ replicate (max_drives - n) None }
 
 -- ---- on the tables
 -- what is in force, by the state that a call on a zone is handed
@@ -91,10 +104,9 @@ parity_room_at a qs xs ws ps d = room_at a (new_parity_size a.first (by_pointers
 abbrev pub emptyings_of : RoomAsked → LogRoom → Emptyings
 emptyings_of a x = record {
   from = a.places.geometry;
-  to = with_logs a.places.geometry (moved_logs a.places.geometry a.parity (is_set x.emptied) a.places.geometry.drives);
+  to = with_logs a.places.geometry (moved_logs a.places.geometry a.parity (is_emptied x.emptied) a.places.geometry.drives);
   here = a.here;
   emptied = x.emptied;
-  generations = x.generations;
 }
 
 pub either : (x y : Bool) → x || y ≡ false → (x ≡ false) × (y ≡ false)
@@ -155,52 +167,42 @@ module _ (g : Geometry) (p : LogPlaces) (xs ws ps : List ℕ) (k : SeenByRoles g
 
 -- ---- as the code's loop goes on
 abbrev pub no_answers : LogRoom
-no_answers = record { full = false; emptied = replicate 8 false; generations = replicate 8 0 }
+no_answers = record { full = false; emptied = replicate 8 None }
 
 abbrev pub with_answer : LogRoom → ℕ → DriveRoom → LogRoom
-with_answer x d a = record { full = x.full || a.full; emptied = set x.emptied d a.lacks; generations = set x.generations d a.generation }
+with_answer x d a = record { full = x.full || full_in a; emptied = set x.emptied d (emptied_in a) }
 
 pub answered : (f : ℕ → DriveRoom) (d : ℕ) (x : LogRoom) (a : DriveRoom) → d < 8 → a ≡ f d → x ≡ room_of f d → with_answer x d a ≡ room_of f (d + 1)
-answered f d x a h e q = rw (e, q, add-one) (more (fill_more (λ e. (f e).lacks) false 8 d h) (fill_more (λ e. (f e).generation) 0 8 d h))
+answered f d x a h e q = rw (e, q, add-one) (more (fill_more (λ e. emptied_in (f e)) None 8 d h))
   where
-    more : set (tabulate (λ e. (f e).lacks) d ++ replicate (max_drives - d) false) d (f d).lacks ≡ tabulate (λ e. (f e).lacks) (suc d) ++ replicate (max_drives - suc d) false
-        → set (tabulate (λ e. (f e).generation) d ++ replicate (max_drives - d) 0) d (f d).generation ≡ tabulate (λ e. (f e).generation) (suc d) ++ replicate (max_drives - suc d) 0
-        → with_answer (room_of f d) d (f d) ≡ room_of f (suc d)
-    more p r = λ i. record { full = any_below (λ e. (f e).full) d || (f d).full; emptied = p i; generations = r i }
+    more : set (tabulate (λ e. emptied_in (f e)) d ++ replicate (max_drives - d) None) d (emptied_in (f d)) ≡ tabulate (λ e. emptied_in (f e)) (suc d) ++ replicate (max_drives - suc d) None → with_answer (room_of f d) d (f d) ≡ room_of f (suc d)
+    more p = λ i. record { full = any_below (λ e. full_in (f e)) d || full_in (f d); emptied = p i }
 
 -- ---- case by case
-pub room_none : (lacks lost : Bool) (zone_claim : ℕ) → lacks ≡ false → drive_room_of false false 0 ≡ drive_room_of lacks lost zone_claim
+pub room_none : (lacks lost : Bool) (zone_claim : ℕ) → lacks ≡ false → Roomy ≡ drive_room_of lacks lost zone_claim
 room_none lacks lost zone_claim e = rw e refl
 
 pub room_new : (lacks lost : Bool) (zone_claim : ℕ) → lacks ≡ true → drive_room_of true lost zone_claim ≡ drive_room_of lacks lost zone_claim
 room_new lacks lost zone_claim e = rw e refl
 
--- it has room, or stays full whatever the size
-abbrev pub is_done : DriveRoom → Bool
-is_done x = x.full || not x.lacks
+-- by the size of its new log a log that would be emptied stays full
+abbrev pub by_size : Bool → DriveRoom → DriveRoom
+by_size small Roomy = Roomy
+by_size small Full = Full
+by_size small (Emptied n) = pick small Full (Emptied n)
 
-done_sized : (lacks lost small : Bool) (zone_claim : ℕ) → is_done (drive_room_of lacks lost zone_claim) ≡ true → drive_room_of lacks lost zone_claim ≡ drive_room_of lacks (lost || small) zone_claim
-done_sized true true small zone_claim h = refl
-done_sized true false small zone_claim h = absurd (true≢false (sym h))
-done_sized false lost small zone_claim h = refl
+by_size_lem : (lacks lost small : Bool) (zone_claim : ℕ) → by_size small (drive_room_of lacks lost zone_claim) ≡ drive_room_of lacks (lost || small) zone_claim
+by_size_lem true true small zone_claim = refl
+by_size_lem true false true zone_claim = refl
+by_size_lem true false false zone_claim = refl
+by_size_lem false lost small zone_claim = refl
 
-left_sized : (lacks lost small : Bool) (zone_claim : ℕ) → is_done (drive_room_of lacks lost zone_claim) ≡ false → pick small (drive_room_of true true 0) (drive_room_of lacks lost zone_claim) ≡ drive_room_of lacks (lost || small) zone_claim
-left_sized true true small zone_claim h = absurd (true≢false h)
-left_sized true false true zone_claim h = refl
-left_sized true false false zone_claim h = refl
-left_sized false lost small zone_claim h = absurd (true≢false h)
-
-module _ (a : RoomAsked) (size : ℕ) (xs ws ps : List ℕ) (d : ℕ) (x : DriveRoom) (e : x ≡ unsized_at a xs ws ps d) where
-  abbrev small : ℕ → Bool
-  small n = ltb (a.first.capacity - n) a.limit
-
-  pub room_done : is_done x ≡ true → x ≡ room_at a size xs ws ps d
-  room_done h = e ∙ done_sized (lacks_at a ps d) (lost_at a xs ws ps d) (small size) (claim_at a xs ws d) (sym (ap is_done e) ∙ h)
-
-  -- n: the size as the code found it, in a geometry of that capacity
-  pub room_sized : (c n : ℕ) → c ≡ a.first.capacity → n ≡ size → is_done x ≡ false → pick (ltb (c - n) a.limit) (drive_room_of true true 0) x ≡ room_at a size xs ws ps d
-  room_sized c n q r h =
-      rw (q, r) (ap (λ (y : DriveRoom). pick (small size) (drive_room_of true true 0) y) e ∙ left_sized (lacks_at a ps d) (lost_at a xs ws ps d) (small size) (claim_at a xs ws d) (sym (ap is_done e) ∙ h))
+-- (x: its answer before that size is known; c, n: the capacity and the size as the code found them)
+pub room_sized : (a : RoomAsked) (size : ℕ) (xs ws ps : List ℕ) (d : ℕ) (x : DriveRoom) → x ≡ unsized_at a xs ws ps d → (c n : ℕ) → c ≡ a.first.capacity → n ≡ size
+    → by_size (ltb (c - n) a.limit) x ≡ room_at a size xs ws ps d
+room_sized a size xs ws ps d x e c n q r =
+    let small : Bool = ltb (a.first.capacity - size) a.limit in
+    rw (q, r) (ap (by_size small) e ∙ by_size_lem (lacks_at a ps d) (lost_at a xs ws ps d) small (claim_at a xs ws d))
 
 -- the log's claim is one above its generation, which fits a number of 64 bits
 pub worn_claim : (n zone_claim : ℕ) → n < 2 ^ 64 → suc n ≡ zone_claim → eqb n worn_generation ≡ ltb worn_generation zone_claim
@@ -291,14 +293,27 @@ module _ (a : RoomAsked) (xs ws ps : List ℕ) (k : Asking a xs ws ps) (ds : Lis
       (stays_full a.first a.parity (roles_of a.first (tables_of xs ws ds)) a.limit size d || (not a.clears_spares && spare_written (seen_in a.first (tables_of xs ws ds)) d)) (claim_of_kind a.parity rule)
   room_is size = rw (lacks_is, stays_is size, claim_is) refl
 
+-- ---- what an answer says
+full_of : (lacks stays : Bool) (n : ℕ) → full_in (drive_room_of lacks stays n) ≡ lacks && stays
+full_of true true n = refl
+full_of true false n = refl
+full_of false stays n = refl
+
+some_of : (lacks stays : Bool) (n : ℕ) → is_some (emptied_in (drive_room_of lacks stays n)) ≡ lacks
+some_of true true n = refl
+some_of true false n = refl
+some_of false stays n = refl
+
+value_of : (lacks stays : Bool) (n : ℕ) → generation_or_0 (emptied_in (drive_room_of lacks stays n)) ≡ pick (lacks && not stays) n 0
+value_of true true n = refl
+value_of true false n = refl
+value_of false stays n = refl
+
 -- ---- THE ANSWERS OF ALL DRIVES below n, by what the rules say of each
 module _ (f : ℕ → DriveRoom) (n : ℕ) (emptied stays : ℕ → Bool) (zone_claim : ℕ → ℕ) (are : (d : ℕ) → d < n → f d ≡ drive_room_of (emptied d) (stays d) (zone_claim d)) where
   -- refusal 14
   pub rooms_full : (room_of f n).full ≡ any_below (λ d. emptied d && stays d) n
-  rooms_full = any_below_cong (λ d. (f d).full) (λ d. emptied d && stays d) n (λ d hd. ap (λ (x : DriveRoom). x.full) (are d hd))
-
-  pub rooms_emptied : (d : ℕ) → d < n → is_set (room_of f n).emptied d ≡ emptied d
-  rooms_emptied d hd = fill_at (λ e. (f e).lacks) false false n (max_drives - n) d hd ∙ ap (λ (x : DriveRoom). x.lacks) (are d hd)
+  rooms_full = any_below_cong (λ d. full_in (f d)) (λ d. emptied d && stays d) n (λ d hd. ap full_in (are d hd) ∙ full_of (emptied d) (stays d) (zone_claim d))
 
   pub rooms_stay : (room_of f n).full ≡ false → (d : ℕ) → d < n → emptied d ≡ true → stays d ≡ false
   rooms_stay full d hd e = go (emptied d) e (any_below_false (λ i. emptied i && stays i) n d (sym rooms_full ∙ full) hd)
@@ -307,7 +322,14 @@ module _ (f : ℕ → DriveRoom) (n : ℕ) (emptied stays : ℕ → Bool) (zone_
       go true q h = h
       go false q h = absurd (true≢false (sym q))
 
-  pub rooms_generation : (room_of f n).full ≡ false → (d : ℕ) → d < n → emptied d ≡ true → get_or (room_of f n).generations d 0 ≡ zone_claim d
+  -- what is said of a drive below n
+  room_at_lem : (d : ℕ) → d < n → get_or (room_of f n).emptied d None ≡ emptied_in (drive_room_of (emptied d) (stays d) (zone_claim d))
+  room_at_lem d hd = fill_at (λ e. emptied_in (f e)) None None n (max_drives - n) d hd ∙ ap emptied_in (are d hd)
+
+  pub rooms_emptied : (d : ℕ) → d < n → is_emptied (room_of f n).emptied d ≡ emptied d
+  rooms_emptied d hd = ap is_some (room_at_lem d hd) ∙ some_of (emptied d) (stays d) (zone_claim d)
+
+  pub rooms_generation : (room_of f n).full ≡ false → (d : ℕ) → d < n → emptied d ≡ true → new_generation (room_of f n).emptied d ≡ zone_claim d
   rooms_generation full d hd e =
-      fill_at (λ i. (f i).generation) 0 0 n (max_drives - n) d hd ∙ ap (λ (x : DriveRoom). x.generation) (are d hd)
+      ap generation_or_0 (room_at_lem d hd) ∙ value_of (emptied d) (stays d) (zone_claim d)
       ∙ ap₂ (λ (a b : Bool). pick (a && not b) (zone_claim d) 0) e (rooms_stay full d hd e)

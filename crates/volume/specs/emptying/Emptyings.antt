@@ -1,6 +1,6 @@
 -- The logs of a kind emptied drive by drive (src/emptyings.rt). Each emptying reads what was there at the call's start, since the stores of those before it leave
 -- all of that alone. Carried to where the logs lie afterwards, they are the stores of the rules.
-use Rattle.std.specs.Prelude.{◌≡◌, refl, Bool, true, false, ℕ, zero, suc, ◌+◌, ◌≤◌, ◌<◌, List, [], ◌∷◌, ◌++◌, map, length, get_or, take}
+use Rattle.std.specs.Prelude.{◌≡◌, refl, Bool, true, false, ℕ, zero, suc, ◌+◌, ◌≤◌, ◌<◌, List, [], ◌∷◌, ◌++◌, map, length, take}
 use Rattle.std.proofs.Common.{◌∙◌, subst, le_refl, arith}
 use Rattle.tables.specs.declared.Geometry.{Geometry}
 use Rattle.tables.specs.meaning.Basics.{pick}
@@ -30,14 +30,15 @@ use Rattle.volume.specs.emptying.Elsewhere.{SectorsLong, sectors_long_append}
 use Rattle.volume.specs.emptying.Moving.{Copying}
 use Rattle.volume.specs.emptying.EmptyingStores.{with_closing, emptied_to}
 use Rattle.volume.specs.emptying.GeneralCopies.{by_generations, copies_below, copies_are, copies_long, counters_long, kept_label_long}
+use Rattle.volume.specs.looking.MovedLogs.{is_emptied, new_generation}
 
 -- one of them
 abbrev pub emptying_of : Emptyings → ℕ → Emptying
-emptying_of a d = record { from = a.from; to = a.to; here = a.here; drive = d; generation = get_or a.generations d 0 }
+emptying_of a d = record { from = a.from; to = a.to; here = a.here; drive = d; generation = new_generation a.emptied d }
 
 -- its stores, by `to`, if it is due (ss: the copies)
 abbrev pub emptied_on : Emptyings → Bool → List (List ℕ) → ℕ → List Store
-emptied_on a par ss d = pick (is_set a.emptied d) (emptied_to (emptying_of a d) par ss) []
+emptied_on a par ss d = pick (is_emptied a.emptied d) (emptied_to (emptying_of a d) par ss) []
 
 -- the copies of drive d's general log
 abbrev pub new_general_on : Emptyings → List ℕ → List ℕ → List ℕ → ℕ → List (List ℕ)
@@ -46,14 +47,14 @@ new_general_on a gs xs ps d = map (encode a.from d) (general_copies a.from (by_g
 -- ---- what the functions rely on
 pub record EmptyingReady (par : Bool) (a : Emptyings) (ps xs ws ds : List ℕ) : Type 0 where
   pub shape : SameShape a.from a.to
-  pub moved : (d : ℕ) → d < a.from.drives → is_set a.emptied d ≡ true → zone_place a.to d (kind_of_log par) ≡ zone_place a.from d spare_zone
+  pub moved : (d : ℕ) → d < a.from.drives → is_emptied a.emptied d ≡ true → zone_place a.to d (kind_of_log par) ≡ zone_place a.from d spare_zone
   pub sectors_long : length xs ≡ total_bytes a.from
   pub written_long : length ws ≡ cells a.from
   pub durable_long : length ds ≡ cells a.from
   pub pointers_long : length ps ≡ cells a.from
   pub behind : Behind a.to rows.not_spare ps ws
 
-pub ready_copying : (par : Bool) (a : Emptyings) (ps xs ws ds : List ℕ) (d : ℕ) → EmptyingReady par a ps xs ws ds → d < a.from.drives → is_set a.emptied d ≡ true → Copying par (emptying_of a d) ps xs ws
+pub ready_copying : (par : Bool) (a : Emptyings) (ps xs ws ds : List ℕ) (d : ℕ) → EmptyingReady par a ps xs ws ds → d < a.from.drives → is_emptied a.emptied d ≡ true → Copying par (emptying_of a d) ps xs ws
 ready_copying par a ps xs ws ds d r hd e = record {
   moves = record { shape = r.shape; drive_in = hd; moved = r.moved d hd e };
   sectors_long = r.sectors_long;
@@ -106,15 +107,15 @@ new_general_long a gs xs ps d ok h =
 
 closed_long : (a : Emptyings) (par : Bool) (ss : List (List ℕ)) (d : ℕ) → Valid a.from → SectorsLong a.from.sector ss → SectorsLong a.from.sector (with_closing (emptying_of a d) par ss)
 closed_long a par ss d ok l =
-    let c = closing (kind_of_log par) (get_or a.generations d 0) in
+    let c = closing (kind_of_log par) (new_generation a.emptied d) in
     sectors_long_append a.from.sector ss (encode a.from d c ∷ []) l (header_long a.from d c ok tt, tt)
 
 -- one emptying leaves what is read as it was
 pub emptied_kept : (par : Bool) (a : Emptyings) (ps xs ws ds : List ℕ) (d : ℕ) (ss : List (List ℕ)) (budget rest : ℕ) (xs' ws' ds' : List ℕ) → Valid a.from → EmptyingReady par a ps xs ws ds → d < a.from.drives
-    → (is_set a.emptied d ≡ true → SectorsLong a.from.sector ss) → Made a.to budget rest (emptied_on a par ss d) (tables_of xs ws ds) (tables_of xs' ws' ds') → StoredKept a.from a.to rows.not_spare ps xs xs' ws'
+    → (is_emptied a.emptied d ≡ true → SectorsLong a.from.sector ss) → Made a.to budget rest (emptied_on a par ss d) (tables_of xs ws ds) (tables_of xs' ws' ds') → StoredKept a.from a.to rows.not_spare ps xs xs' ws'
 emptied_kept par a ps xs ws ds d ss budget rest xs' ws' ds' ok r hd l m =
     made_stored a.from a.to rows.not_spare budget rest (emptied_on a par ss d) ps (tables_of xs ws ds) (tables_of xs' ws' ds') (same_shape a.from a.to r.shape)
-    (pick_in a.from rows.not_spare (is_set a.emptied d) (emptied_to (emptying_of a d) par ss) (λ q. emptying_in a.from (is_set a.here) d par (with_closing (emptying_of a d) par ss) hd (closed_long a par ss d ok (l q))))
+    (pick_in a.from rows.not_spare (is_emptied a.emptied d) (emptied_to (emptying_of a d) par ss) (λ q. emptying_in a.from (is_set a.here) d par (with_closing (emptying_of a d) par ss) hd (closed_long a par ss d ok (l q))))
     (record { sectors_long = r.sectors_long; written_long = r.written_long; durable_long = r.durable_long }) r.behind m
 
 -- ---- one after the other: what the first ones left, with what is read as it was

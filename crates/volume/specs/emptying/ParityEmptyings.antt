@@ -12,6 +12,7 @@ use Rattle.volume.specs.rows.KeptBelow.{Behind}
 use Rattle.volume.specs.emptying.ParityCopies.{in_force_by, PointersWithin, old_entries, entry_sectors}
 use Rattle.volume.specs.emptying.ParityReady.{ParityCopying, none_gone_known, parity_copies_long}
 use Rattle.volume.specs.emptying.Emptyings.{emptying_of, EmptyingReady, ready_copying}
+use Rattle.volume.specs.looking.MovedLogs.{is_emptied}
 
 -- the copies of drive d's parity log
 abbrev pub new_parity_on : Emptyings → List ℕ → List ℕ → List ℕ → List ℕ → ℕ → List (List ℕ)
@@ -24,9 +25,9 @@ pub record ParityKnown (a : Emptyings) (gs qs ps xs ws : List ℕ) (d : ℕ) : T
   pub in_zones : (e y : ℕ) → e < a.from.drives → is_set a.here e ≡ true → y < physical_zones a.from → get_or ps (cell a.from e y) 0 ≤ a.from.capacity
   pub generations_long : a.from.zones ≤ length gs
   pub pointers_within : PointersWithin a.from qs
-  pub none_gone : is_set a.emptied d ≡ true → gone_for_copies a.from (is_set a.here) (in_force_by (emptying_of a d) gs qs (read_device a.from xs ps)) (read_device a.from xs ps) d ≡ false
+  pub none_gone : is_emptied a.emptied d ≡ true → gone_for_copies a.from (is_set a.here) (in_force_by (emptying_of a d) gs qs (read_device a.from xs ps)) (read_device a.from xs ps) d ≡ false
 
-pub known_copying : (a : Emptyings) (gs qs ps xs ws ds : List ℕ) (d : ℕ) → EmptyingReady true a ps xs ws ds → ParityKnown a gs qs ps xs ws d → is_set a.emptied d ≡ true → ParityCopying (emptying_of a d) gs qs ps ps xs ws
+pub known_copying : (a : Emptyings) (gs qs ps xs ws ds : List ℕ) (d : ℕ) → EmptyingReady true a ps xs ws ds → ParityKnown a gs qs ps xs ws d → is_emptied a.emptied d ≡ true → ParityCopying (emptying_of a d) gs qs ps ps xs ws
 known_copying a gs qs ps xs ws ds d r k e = record {
   tables = record {
     copying = ready_copying true a ps xs ws ds d r k.drive_in e;
@@ -43,12 +44,12 @@ known_copying a gs qs ps xs ws ds d r k e = record {
 -- what the emptying of a drive's parity log relies on, if it is one of them: values are read below `ps`, the old log below `ss`
 pub record TurnReady (a : Emptyings) (gs qs ps ss xs ws ds : List ℕ) (d : ℕ) : Type 0 where
   pub drive_in : d < a.from.drives
-  pub copying : is_set a.emptied d ≡ true → ParityCopying (emptying_of a d) gs qs ps ss xs ws
+  pub copying : is_emptied a.emptied d ≡ true → ParityCopying (emptying_of a d) gs qs ps ss xs ws
   pub durable_long : length ds ≡ cells a.from
 
 pub known_ready : (a : Emptyings) (gs qs ps xs ws ds : List ℕ) (d : ℕ) → EmptyingReady true a ps xs ws ds → ParityKnown a gs qs ps xs ws d → TurnReady a gs qs ps ps xs ws ds d
 known_ready a gs qs ps xs ws ds d r k = record { drive_in = k.drive_in; copying = known_copying a gs qs ps xs ws ds d r k; durable_long = r.durable_long }
 
 -- these copies are whole sectors
-pub known_long : (a : Emptyings) (gs qs ps xs ws ds : List ℕ) (d : ℕ) → Valid a.from → EmptyingReady true a ps xs ws ds → ParityKnown a gs qs ps xs ws d → is_set a.emptied d ≡ true → SectorsLong a.from.sector (new_parity_on a gs qs xs ps d)
+pub known_long : (a : Emptyings) (gs qs ps xs ws ds : List ℕ) (d : ℕ) → Valid a.from → EmptyingReady true a ps xs ws ds → ParityKnown a gs qs ps xs ws d → is_emptied a.emptied d ≡ true → SectorsLong a.from.sector (new_parity_on a gs qs xs ps d)
 known_long a gs qs ps xs ws ds d ok r k e = parity_copies_long (emptying_of a d) gs qs ps ps xs ws ok (known_copying a gs qs ps xs ws ds d r k e)

@@ -23,6 +23,7 @@ use Rattle.volume.specs.emptying.ParityCopies.{in_force_by, PointersWithin, old_
 use Rattle.volume.specs.emptying.ParityEmptyings.{TurnReady}
 use Rattle.volume.specs.emptying.ParityReady.{KnownIfMade, ParityCopying, parity_copies_long}
 use Rattle.volume.specs.emptying.Emptyings.{emptying_of, emptied_on, EmptyingReady, ready_copying, emptied_kept}
+use Rattle.volume.specs.looking.MovedLogs.{is_emptied}
 
 -- what the function relies on
 pub record ParitiesReady (a : Emptyings) (gs qs ps ss xs ws ds : List ℕ) : Type 0 where
@@ -34,7 +35,7 @@ pub record ParitiesReady (a : Emptyings) (gs qs ps ss xs ws ds : List ℕ) : Typ
   pub in_zones : (d y : ℕ) → d < a.from.drives → is_set a.here d ≡ true → y < physical_zones a.from → get_or ps (cell a.from d y) 0 ≤ a.from.capacity
   pub generations_long : a.from.zones ≤ length gs
   pub pointers_within : PointersWithin a.from qs
-  pub known_if_made : (d z : ℕ) → d < a.from.drives → is_set a.emptied d ≡ true → z < a.from.zones
+  pub known_if_made : (d z : ℕ) → d < a.from.drives → is_emptied a.emptied d ≡ true → z < a.from.zones
       → KnownIfMade (emptying_of a d) (point_of gs qs z) (read_device a.from xs ps) (old_entries (emptying_of a d) (read_device a.from xs ss))
 
 -- the copies of drive d's parity log
@@ -50,7 +51,7 @@ pub record ParitiesEmptied (a : Emptyings) (gs qs ps ss : List ℕ) (budget rest
 
 -- ---- one of them
 -- what it relies on
-pub turn_copying : (a : Emptyings) (gs qs ps ss xs ws ds : List ℕ) (d : ℕ) → ParitiesReady a gs qs ps ss xs ws ds → d < a.from.drives → is_set a.emptied d ≡ true → ParityCopying (emptying_of a d) gs qs ps ss xs ws
+pub turn_copying : (a : Emptyings) (gs qs ps ss xs ws ds : List ℕ) (d : ℕ) → ParitiesReady a gs qs ps ss xs ws ds → d < a.from.drives → is_emptied a.emptied d ≡ true → ParityCopying (emptying_of a d) gs qs ps ss xs ws
 turn_copying a gs qs ps ss xs ws ds d r hd e =
     let c = ready_copying true a ss xs ws ds d r.ready hd e in
     record {
@@ -81,11 +82,11 @@ module _ (a : Emptyings) (gs qs ps ss xs ws ds : List ℕ) (d : ℕ) (ok : Valid
   abbrev copies : List (List ℕ)
   copies = parity_copies_on a gs qs ps ss xs d
 
-  whole : is_set a.emptied d ≡ true → SectorsLong a.from.sector copies
+  whole : is_emptied a.emptied d ≡ true → SectorsLong a.from.sector copies
   whole e = parity_copies_long (emptying_of a d) gs qs ps ss xs ws ok (turn_copying a gs qs ps ss xs ws ds d r hd e)
 
   -- it is due: it appends to its log by `to`, and resets the spare
-  left_due : is_set a.emptied d ≡ true → Made a.to budget rest (emptied_to (emptying_of a d) true copies) (tables_of xs ws ds) (tables_of xs' ws' ds') → Left a ps ss xs xs' ws' ds'
+  left_due : is_emptied a.emptied d ≡ true → Made a.to budget rest (emptied_to (emptying_of a d) true copies) (tables_of xs ws ds) (tables_of xs' ws' ds') → Left a ps ss xs xs' ws' ds'
   left_due e m =
       let x = emptying_of a d in
       let c = (turn_copying a gs qs ps ss xs ws ds d r hd e).tables.copying in
@@ -117,7 +118,7 @@ module _ (a : Emptyings) (gs qs ps ss xs ws ds : List ℕ) (d : ℕ) (ok : Valid
         device = rw x refl;
       }
 
-  left : (b : Bool) → is_set a.emptied d ≡ b → Made a.to budget rest (pick b (emptied_to (emptying_of a d) true copies) []) (tables_of xs ws ds) (tables_of xs' ws' ds') → Left a ps ss xs xs' ws' ds'
+  left : (b : Bool) → is_emptied a.emptied d ≡ b → Made a.to budget rest (pick b (emptied_to (emptying_of a d) true copies) []) (tables_of xs ws ds) (tables_of xs' ws' ds') → Left a ps ss xs xs' ws' ds'
   left true e m = left_due e m
   left false e m = left_alone m
 
@@ -126,7 +127,7 @@ module _ (a : Emptyings) (gs qs ps ss xs ws ds : List ℕ) (d : ℕ) (ok : Valid
       → ParitiesReady a gs qs ps ss xs' ws' ds' × (read_device a.from xs' ps ≡ read_device a.from xs ps) × (read_device a.from xs' ss ≡ read_device a.from xs ss)
   parities_kept m =
       let o = r.ready in
-      let n = left (is_set a.emptied d) refl m in
+      let n = left (is_emptied a.emptied d) refl m in
       let k = emptied_kept true a ss xs ws ds d copies budget rest xs' ws' ds' ok o hd whole m in
       let q : read_device a.from xs' ps ≡ read_device a.from xs ps = n.device in
       let p : read_device a.from xs' ss ≡ read_device a.from xs ss = k.device in (

@@ -24,7 +24,7 @@ use Rattle.volume.specs.meaning.Emptying.{emptying_stores, emptyings}
 use Rattle.volume.specs.laws.LogPlaces.{with_logs, with_roles, Proper, roles_proper, roles_after_proper, zone_by_role, OnDrives}
 use Rattle.volume.specs.laws.EachBelow.{each_below_cong}
 use Rattle.volume.specs.looking.HiddenLogs.{hidden_log, hidden_logs}
-use Rattle.volume.specs.looking.MovedLogs.{moved_logs, moved_by_roles}
+use Rattle.volume.specs.looking.MovedLogs.{is_emptied, moved_logs, moved_by_roles}
 use Rattle.volume.specs.looking.Knowing.{read_device}
 use Rattle.volume.specs.checks.LogRoom.{Asking, emptyings_of, placed_is, pointers_long, seen_roles}
 use Rattle.volume.specs.emptying.EmptyingStores.{with_closing}
@@ -60,23 +60,23 @@ module _ (a : RoomAsked) (x : LogRoom) (xs ws ps : List ℕ) (k : Asking a xs ws
   r = roles a.first (read_device a.first xs ws)
 
   abbrev after : ℕ → Roles
-  after = roles_after a.parity (is_set x.emptied) r
+  after = roles_after a.parity (is_emptied x.emptied) r
 
   proper : (d : ℕ) → Proper (r d)
   proper d = roles_proper g (read_device g xs ws) d
 
   after_proper : (d : ℕ) → Proper (after d)
-  after_proper d = roles_after_proper a.parity (is_set x.emptied) r proper d
+  after_proper d = roles_after_proper a.parity (is_emptied x.emptied) r proper d
 
   from_is : a.places.geometry ≡ with_roles g r
   from_is = placed_is g a.places xs ws ps k
 
   pub to_is : (emptyings_of a x).to ≡ with_roles g after
-  to_is = ap (λ (h : Geometry). with_logs h (moved_logs h a.parity (is_set x.emptied) h.drives)) from_is ∙ moved_by_roles g r proper a.parity (is_set x.emptied)
+  to_is = ap (λ (h : Geometry). with_logs h (moved_logs h a.parity (is_emptied x.emptied) h.drives)) from_is ∙ moved_by_roles g r proper a.parity (is_emptied x.emptied)
 
-  moved_place : (d : ℕ) → d < g.drives → is_set x.emptied d ≡ true → zone_place (emptyings_of a x).to d (kind_of_log a.parity) ≡ zone_place a.places.geometry d spare_zone
+  moved_place : (d : ℕ) → d < g.drives → is_emptied x.emptied d ≡ true → zone_place (emptyings_of a x).to d (kind_of_log a.parity) ≡ zone_place a.places.geometry d spare_zone
   moved_place d hd e =
-      ap (λ (h : Geometry). zone_place h d (kind_of_log a.parity)) to_is ∙ zone_by_role g after after_proper d hd (kind_of_log a.parity) ∙ new_place g (is_set a.here) a.parity r (is_set x.emptied) (λ n. []) d e
+      ap (λ (h : Geometry). zone_place h d (kind_of_log a.parity)) to_is ∙ zone_by_role g after after_proper d hd (kind_of_log a.parity) ∙ new_place g (is_set a.here) a.parity r (is_emptied x.emptied) (λ n. []) d e
       ∙ sym (ap (λ (h : Geometry). zone_place h d spare_zone) from_is ∙ zone_by_role g r proper d hd spare_zone)
 
   pub room_ready : (ds : List ℕ) → length ds ≡ cells g → EmptyingReady a.parity (emptyings_of a x) ps xs ws ds
@@ -103,7 +103,7 @@ carry_agree g ρ σ e (x ∷ xs) h = ap₂ (λ (y : Store) (ys : List Store). y 
     one (flush d) l = refl
 
 -- THE STORES OF THE RULES: e, the logs emptied; ss, the new logs' sectors; rest, the call's own stores
-module _ (a : RoomAsked) (x : LogRoom) (xs ws ps ds : List ℕ) (k : Asking a xs ws ps) (copies : ℕ → List (List ℕ)) (e : ℕ → Bool) (ss : ℕ → List (List ℕ)) (emptied_same : (d : ℕ) → d < a.first.drives → is_set x.emptied d ≡ e d)
+module _ (a : RoomAsked) (x : LogRoom) (xs ws ps ds : List ℕ) (k : Asking a xs ws ps) (copies : ℕ → List (List ℕ)) (e : ℕ → Bool) (ss : ℕ → List (List ℕ)) (emptied_same : (d : ℕ) → d < a.first.drives → is_emptied x.emptied d ≡ e d)
     (copies_same : (d : ℕ) → d < a.first.drives → e d ≡ true → with_closing (emptying_of (emptyings_of a x) d) a.parity (copies d) ≡ ss d) where
   abbrev all : Emptyings
   all = emptyings_of a x
@@ -114,14 +114,14 @@ module _ (a : RoomAsked) (x : LogRoom) (xs ws ps ds : List ℕ) (k : Asking a xs
   abbrev closed : ℕ → List (List ℕ)
   closed d = with_closing (emptying_of all d) a.parity (copies d)
 
-  made_as : each_below (λ d. emptied_on all a.parity (copies d) d) all.from.drives ≡ emptied_by a.first present a.parity (is_set x.emptied) closed a.first.drives
+  made_as : each_below (λ d. emptied_on all a.parity (copies d) d) all.from.drives ≡ emptied_by a.first present a.parity (is_emptied x.emptied) closed a.first.drives
   unfolding emptying_stores
-  made_as = ap (λ (n : ℕ). each_below (λ d. pick (is_set x.emptied d) (emptying_stores (record { drives = n; sector = 0; unit = 0; zones = 0; capacity = 0; logs = 0 }) present d spare_zone (kind_of_log a.parity) (closed d)) []) n) (ap (λ (h : Geometry). h.drives) (from_is a x xs ws ps k))
+  made_as = ap (λ (n : ℕ). each_below (λ d. pick (is_emptied x.emptied d) (emptying_stores (record { drives = n; sector = 0; unit = 0; zones = 0; capacity = 0; logs = 0 }) present d spare_zone (kind_of_log a.parity) (closed d)) []) n) (ap (λ (h : Geometry). h.drives) (from_is a x xs ws ps k))
 
-  emptyings_same : emptyings a.first present a.parity (r a x xs ws ps k) (is_set x.emptied) closed ≡ emptyings a.first present a.parity (r a x xs ws ps k) e ss
+  emptyings_same : emptyings a.first present a.parity (r a x xs ws ps k) (is_emptied x.emptied) closed ≡ emptyings a.first present a.parity (r a x xs ws ps k) e ss
   unfolding emptyings
   emptyings_same = each_below_cong
-      (λ d. pick (is_set x.emptied d) (emptying_stores a.first present d (zone_of_kind a.parity (r a x xs ws ps k d)) (r a x xs ws ps k d).spare (closed d)) [])
+      (λ d. pick (is_emptied x.emptied d) (emptying_stores a.first present d (zone_of_kind a.parity (r a x xs ws ps k d)) (r a x xs ws ps k d).spare (closed d)) [])
       (λ d. pick (e d) (emptying_stores a.first present d (zone_of_kind a.parity (r a x xs ws ps k d)) (r a x xs ws ps k d).spare (ss d)) []) a.first.drives
       (λ d hd. ap (λ (b : Bool). pick b (emptying_stores a.first present d (zone_of_kind a.parity (r a x xs ws ps k d)) (r a x xs ws ps k d).spare (closed d)) []) (emptied_same d hd) ∙ go d hd (e d) refl)
     where
@@ -138,11 +138,11 @@ module _ (a : RoomAsked) (x : LogRoom) (xs ws ps ds : List ℕ) (k : Asking a xs
       → Made a.first budget left (emptyings a.first present a.parity (roles_of a.first (tables_of xs ws ds)) e ss ++ map (carry (placed_by (roles_after a.parity e (roles_of a.first (tables_of xs ws ds))))) rest) (tables_of xs ws ds) u
   emptied_made_all budget left rest u h m =
       let t = tables_of xs ws ds in
-      let first = emptied_by a.first present a.parity (is_set x.emptied) closed a.first.drives in
-      let on = on_drives_append a.first first rest (on_drives_emptyings a.first present a.parity (is_set x.emptied) closed a.first.drives (le_refl a.first.drives)) h in
+      let first = emptied_by a.first present a.parity (is_emptied x.emptied) closed a.first.drives in
+      let on = on_drives_append a.first first rest (on_drives_emptyings a.first present a.parity (is_emptied x.emptied) closed a.first.drives (le_refl a.first.drives)) h in
       let m₁ : Made (with_roles a.first (after a x xs ws ps k)) budget left (first ++ rest) t u = subst (λ (h : Geometry). Made h budget left (first ++ rest) t u) (to_is a x xs ws ps k) (subst (λ (l : List Store). Made all.to budget left (l ++ rest) t u) made_as m) in
       let m₂ = made_by_roles a.first k.logs_first (after a x xs ws ps k) (after_proper a x xs ws ps k) budget left (first ++ rest) t u on m₁ in
       let whole : map (carry (placed_by (after a x xs ws ps k))) (first ++ rest) ≡ emptyings a.first present a.parity (r a x xs ws ps k) e ss ++ map (carry (placed_by (roles_after a.parity e (r a x xs ws ps k)))) rest =
-      map_append (carry (placed_by (after a x xs ws ps k))) first rest ∙ ap₂ (λ (y z : List Store). y ++ z) (carry_emptyings a.first present a.parity (r a x xs ws ps k) (is_set x.emptied) closed ∙ emptyings_same) (carried_same rest h) in
+      map_append (carry (placed_by (after a x xs ws ps k))) first rest ∙ ap₂ (λ (y z : List Store). y ++ z) (carry_emptyings a.first present a.parity (r a x xs ws ps k) (is_emptied x.emptied) closed ∙ emptyings_same) (carried_same rest h) in
       subst (λ (f : ℕ → Roles). Made a.first budget left (emptyings a.first present a.parity f e ss ++ map (carry (placed_by (roles_after a.parity e f))) rest) t u) (seen_roles a.first a.places xs ws ps k ds)
       (subst (λ (l : List Store). Made a.first budget left l t u) whole m₂)

@@ -1,6 +1,6 @@
 -- Which zones are a drive's logs, as the code finds them (src/roles.rt): by what zones claim that are not in their first places; and by the claim of a zone
 -- in its first place only where another makes it too. That these are the roles.
-use Rattle.std.specs.Prelude.{◌≡◌, refl, Bool, true, false, ◌&&◌, ◌||◌, not, ℕ, zero, suc, ◌<◌, List, leb, eqb}
+use Rattle.std.specs.Prelude.{◌≡◌, refl, Bool, true, false, ◌&&◌, ◌||◌, not, ℕ, zero, suc, ◌<◌, List, leb, eqb, Option, Some, None}
 use Rattle.std.proofs.Common.{sym, ◌∙◌, arith, le-leb, leb-true, leb-false}
 use Rattle.std.proofs.Math.Path.{ap, ap₂}
 use Rattle.std.proofs.lemmas.Bool.{lt-leb}
@@ -12,7 +12,6 @@ use Rattle.logs.specs.meaning.Entry.{general_zone, parity_zone}
 use Rattle.logs.specs.meaning.Heads.{first_closing}
 use Rattle.logs.specs.code.Query.{heads_of, log_heads}
 use Rattle.logs.specs.meaning.Walk.{walk_log}
-use Rattle.volume.specs.declared.roles.Claim.{Claim}
 use Rattle.volume.specs.declared.roles.Moved.{Moved}
 use Rattle.volume.specs.declared.roles.Counting.{Counting}
 use Rattle.volume.specs.declared.roles.LogZones.{LogZones}
@@ -26,16 +25,17 @@ use Rattle.volume.specs.looking.Knowing.{read_device}
 abbrev pub zones_read : Geometry → List ℕ → List ℕ → ℕ → ℕ → List (List ℕ)
 zones_read g xs ws d y = (read_device g xs ws d y).sectors
 
--- ---- claims, as the code holds them
-abbrev pub rank : Claim → ℕ
-rank c = pick c.made (suc c.generation) 0
+-- ---- claims, as the code holds them: the generation, if a zone is a log of the kind
+abbrev pub rank : Option ℕ → ℕ
+rank None = 0
+rank (Some n) = suc n
 
-abbrev pub moved_claim : ℕ → Claim
-moved_claim n = record { made = not (eqb n 0); generation = n }
+abbrev pub moved_claim : ℕ → Option ℕ
+moved_claim n = pick (eqb n 0) None (Some n)
 
 -- (other: what it claims as the other log; n: what it claims)
-abbrev pub home_claim : ℕ → Bool → ℕ → Claim
-home_claim other asked n = record { made = eqb other 0; generation = pick (eqb other 0 && asked) n 0 }
+abbrev pub home_claim : ℕ → Bool → ℕ → Option ℕ
+home_claim other asked n = pick (eqb other 0) (Some (pick asked n 0)) None
 
 abbrev pub moved_of : Geometry → ℕ → (ℕ → List (List ℕ)) → Moved
 moved_of g d zs = record {
@@ -60,23 +60,6 @@ leb_suc a b = go (leb a b) refl
     go : (c : Bool) → leb a b ≡ c → leb (suc a) (suc b) ≡ c
     go true e = le-leb (suc a) (suc b) (omega (arith, leb-true a b e))
     go false e = lt-leb (suc a) (suc b) (omega (arith, leb-false a b e))
-
-pub rank_none : (a b : Claim) → a.made ≡ false → true ≡ leb (rank a) (rank b)
-rank_none a b e = rw e (sym (le-leb 0 (rank b) (omega arith)))
-
-pub rank_made : (a b : Claim) → a.made ≡ true → b.made && leb a.generation b.generation ≡ leb (rank a) (rank b)
-rank_made a b e = rw e (go b.made)
-  where
-    go : (c : Bool) → c && leb a.generation b.generation ≡ leb (suc a.generation) (pick c (suc b.generation) 0)
-    go true = sym (leb_suc a.generation b.generation)
-    go false = sym (lt-leb (suc a.generation) 0 (omega arith))
-
-pub rank_lacks : (c : Claim) → not c.made ≡ eqb (rank c) 0
-rank_lacks c = go c.made
-  where
-    go : (b : Bool) → not b ≡ eqb (pick b (suc c.generation) 0) 0
-    go true = sym (suc_not_zero c.generation)
-    go false = refl
 
 -- which is the strongest
 module _ (x y z : ℕ) where
@@ -106,7 +89,7 @@ counts_three a = go (leb (a 1) (a 0) && leb (a 2) (a 0)) (leb (a 2) (a 1))
 -- ---- the claims decide: where no other zone claims the kind, whatever the generation of the first place is
 -- (o: what the zone claims as the other log, n: as its own; x, y: what the other zones claim. F: what follows from the ranks, the zone's first)
 decided : (F : ℕ → ℕ → ℕ → Counting) (n x y : ℕ) → F (suc 0) 0 0 ≡ F (suc n) 0 0 → (a b c : Bool)
-    → F (pick a (suc (pick (a && (not b || not c)) n 0)) 0) (pick (not b) (suc x) 0) (pick (not c) (suc y) 0) ≡ F (pick a (suc n) 0) (pick b 0 (suc x)) (pick c 0 (suc y))
+    → F (rank (pick a (Some (pick (not b || not c) n 0)) None)) (rank (pick b None (Some x))) (rank (pick c None (Some y))) ≡ F (pick a (suc n) 0) (pick b 0 (suc x)) (pick c 0 (suc y))
 decided F n x y alone true true true = alone
 decided F n x y alone true true false = refl
 decided F n x y alone true false true = refl
@@ -174,11 +157,11 @@ module _ (g : Geometry) (d : ℕ) (zs : ℕ → List (List ℕ)) where
       ∙ rw (← home_strength g d (zs 1) true, ← moved_strength g d (zs 0) true 0 (λ e. omega (arith, e)), ← moved_strength g d (zs 2) true 2 (λ e. omega (arith, e))) (counts_three (strengths g d zs true))
 
 -- as the code finds it (m: what the moved zones claim; l: the log in its first place; h, x, y: the claims of the three zones)
-module _ (g : Geometry) (xs ws : List ℕ) (d : ℕ) (hd : d < g.drives) (m : Moved) (l : Log) (h x y : Claim) where
+module _ (g : Geometry) (xs ws : List ℕ) (d : ℕ) (hd : d < g.drives) (m : Moved) (l : Log) (h x y : Option ℕ) where
   home_read : (par : Bool) (z : ℕ) → z < 3 → l ≡ log_in g ws d z → first_closing (log_heads g l.drive par l.zone l.written xs) ≡ zone_claim g d par (zones_read g xs ws d z)
   home_read par z hz el = ap (λ (k : Log). first_closing (log_heads g k.drive par k.zone k.written xs)) el ∙ claim_read g xs ws d par z hd hz
 
-  ranks : (a b c : Claim) → a ≡ h → b ≡ x → c ≡ y → counting_of (three (rank h) (rank x) (rank y)) ≡ counting_of (three (rank a) (rank b) (rank c))
+  ranks : (a b c : Option ℕ) → a ≡ h → b ≡ x → c ≡ y → counting_of (three (rank h) (rank x) (rank y)) ≡ counting_of (three (rank a) (rank b) (rank c))
   ranks a b c p q r = rw (p, q, r) refl
 
   pub general_found : m ≡ moved_of g d (zones_read g xs ws d) → l ≡ log_in g ws d general_zone

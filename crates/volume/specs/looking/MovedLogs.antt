@@ -1,6 +1,6 @@
 -- The logs after an emptying, as the code places them (src/roles.rt, `move_logs`): on each drive whose log of the kind was emptied, that log lies where the spare
 -- lay. By the roles: that is `roles_after`.
-use Rattle.std.specs.Prelude.{◌≡◌, refl, Bool, true, false, ◌&&◌, not, ℕ, zero, suc, ◌+◌, ◌*◌, ◌^◌, ◌≤◌, ◌<◌}
+use Rattle.std.specs.Prelude.{◌≡◌, refl, Bool, true, false, ◌&&◌, not, ℕ, zero, suc, ◌+◌, ◌*◌, ◌^◌, ◌≤◌, ◌<◌, List, get_or, Option, Some, None, is_some}
 use Rattle.std.proofs.Common.{ap, arith, add-one}
 use Rattle.std.proofs.Math.Decide.{dec_lt}
 use Rattle.tables.specs.declared.Geometry.{Geometry}
@@ -11,6 +11,17 @@ use Rattle.tables.specs.laws.ZonePlaces.{place_injective, place_of_other}
 use Rattle.volume.specs.declared.roles.LogZones.{LogZones}
 use Rattle.volume.specs.meaning.Roles.{Roles, zone_of_role, roles_after}
 use Rattle.volume.specs.laws.LogPlaces.{with_logs, with_roles, bits_of, logs_of, Proper, zone_by_role, digits_small}
+
+-- the generations of the new logs, of the drives whose logs of a kind are emptied
+abbrev pub is_emptied : List (Option ℕ) → ℕ → Bool
+is_emptied l d = is_some (get_or l d None)
+
+abbrev pub generation_or_0 : Option ℕ → ℕ
+generation_or_0 None = 0
+generation_or_0 (Some n) = n
+
+abbrev pub new_generation : List (Option ℕ) → ℕ → ℕ
+new_generation l d = generation_or_0 (get_or l d None)
 
 -- of drive d: where its logs lie after its log of the kind was emptied, if it was
 abbrev pub zones_after : Geometry → Bool → Bool → ℕ → LogZones

@@ -5,8 +5,8 @@ use Rattle.std.proofs.Common.{ap, ◌∙◌, inl, inr, arith, eq-eqb, ne_eqb}
 use Prim.Native.Nat.{ℕ, zero, ◌≤◌, ◌<◌, min}
 use Rattle.tables.specs.declared.Geometry.{Geometry}
 use Rattle.tables.specs.meaning.Basics.{pick}
-use Rattle.tables.specs.meaning.Below.{any_below, all_below}
-use Rattle.tables.specs.laws.Below.{any_below_cong, all_below_all}
+use Rattle.tables.specs.meaning.Below.{all_below}
+use Rattle.tables.specs.laws.Below.{all_below_all}
 use Rattle.tables.specs.meaning.Greatest.{greatest}
 use Rattle.tables.specs.laws.Greatest.{greatest_is, greatest_max}
 use Rattle.tables.specs.meaning.Lists.{any_of}
@@ -17,34 +17,14 @@ use Rattle.tables.specs.meaning.Tables.{tables_of}
 use Rattle.tables.specs.laws.Tables.{device_length}
 use Rattle.logs.specs.meaning.Entry.{Entry, worn_generation}
 use Rattle.logs.specs.laws.Entry.{worn_is}
-use Rattle.logs.specs.declared.Query.{Query}
-use Rattle.logs.specs.declared.Query.TheVariants.{ResetOf, SealOf}
-use Rattle.logs.specs.meaning.Heads.{is_reset, is_seal, ends_past}
-use Rattle.logs.specs.code.Query.{answer}
-use Rattle.logs.specs.code.Answers.{told, reset_answer, seal_answer}
+use Rattle.logs.specs.meaning.Heads.{ends_past}
 use Rattle.volume.specs.declared.ZoneLook.{ZoneLook}
 use Rattle.volume.specs.declared.Condition.{Condition}
 use Rattle.volume.specs.declared.Condition.TheVariants.{Empty, Open, Sealed, Worn}
-use Rattle.volume.specs.meaning.Rules.{general_heads, parity_entries, parity_ending, ending_past, condition_of, known, zone_view, known_prefix, generation_of, reset_seen, seal_limit, pointer_at, seal_seen, clean_at, zone_at, zone_shown}
+use Rattle.volume.specs.meaning.Rules.{parity_entries, parity_ending, ending_past, condition_of, known, zone_view, known_prefix, generation_of, reset_seen, seal_limit, pointer_at, seal_seen, clean_at, zone_at, zone_shown}
 use Rattle.volume.specs.looking.Knowing.{read_device}
 use Rattle.volume.specs.looking.DriveLogs.{zone_pointer}
 use Rattle.volume.specs.meaning.CallContracts.{zone_look_of}
-
--- ---- rule 3 and the seals: whether a present drive's general log answers 1 to a question
-abbrev pub told_by : Geometry → (ℕ → Bool) → Device → Query → Bool
-told_by g present v query = any_below (λ (d : ℕ). present d && eqb (answer g query 0 0 (general_heads g v d)) 1) g.drives
-
-pub told_reset : (g : Geometry) (present : ℕ → Bool) (v : Device) (z n : ℕ) → told_by g present v (ResetOf z n) ≡ reset_seen g present v z n
-unfolding reset_seen
-told_reset g present v z n =
-    any_below_cong (λ (d : ℕ). present d && eqb (answer g (ResetOf z n) 0 0 (general_heads g v d)) 1) (λ (d : ℕ). present d && any_of (is_reset z n) (general_heads g v d)) g.drives
-    (λ d h. ap (λ (b : Bool). present d && b) (told (answer g (ResetOf z n) 0 0 (general_heads g v d)) (any_of (is_reset z n) (general_heads g v d)) (reset_answer g z n 0 0 (general_heads g v d))))
-
-pub told_seal : (g : Geometry) (present : ℕ → Bool) (v : Device) (z n : ℕ) → told_by g present v (SealOf z n) ≡ seal_seen g present v z n
-unfolding seal_seen
-told_seal g present v z n =
-    any_below_cong (λ (d : ℕ). present d && eqb (answer g (SealOf z n) 0 0 (general_heads g v d)) 1) (λ (d : ℕ). present d && any_of (is_seal z n) (general_heads g v d)) g.drives
-    (λ d h. ap (λ (b : Bool). present d && b) (told (answer g (SealOf z n) 0 0 (general_heads g v d)) (any_of (is_seal z n) (general_heads g v d)) (seal_answer g z n 0 0 (general_heads g v d))))
 
 -- ---- rule 6, of one drive
 pub neither : (a b : Bool) → not (a || b) ≡ (not a && not b)

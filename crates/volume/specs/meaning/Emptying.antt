@@ -1,7 +1,7 @@
 -- Logs that are emptied: by a mount or a reset that finds one without room, and by a compact in any case. "When space lacks at a call's start, before its stores, drive by drive, all present drives are flushed, and the lacking log's
 -- entries still needed .. are copied, zones ascending, into that drive's spare zone. Then comes a closing entry of type 6 .., generation one above the old
 -- log's. A flush follows, then the old zone is reset and becomes the spare." (r: the drives' roles; w: the device by its roles)
-use Rattle.std.specs.Prelude.{Bool, true, false, ◌&&◌, ◌||◌, not, ℕ, zero, suc, ◌+◌, ◌-◌, ◌*◌, ◌≤◌, min, List, [], ◌∷◌, ◌++◌, map, length, ltb, eqb}
+use Rattle.std.specs.Prelude.{Bool, true, false, ◌&&◌, ◌||◌, not, ℕ, zero, suc, ◌+◌, ◌-◌, ◌*◌, ◌≤◌, min, List, [], ◌∷◌, ◌++◌, map, length, ltb, leb, eqb}
 use Rattle.tables.specs.meaning.Basics.{pick}
 use Rattle.tables.specs.meaning.Below.{any_below, each_below, sum_below}
 use Rattle.tables.specs.meaning.Lists.{any_of, concat}

@@ -11,7 +11,7 @@ use Rattle.volume.specs.declared.Condition.TheVariants.{Empty, Open, Sealed, Wor
 use Rattle.volume.specs.meaning.State.{pointer_in, owner_of, is_owner, hosts, share_at, StateView, with_shares, set_at}
 use Rattle.volume.specs.meaning.Content.{inside_stripe, parity_drive_at}
 use Rattle.volume.specs.meaning.Calls.{write_state, flush_state}
-use Rattle.volume.specs.meaning.Roles.{roles, by_roles}
+use Rattle.volume.specs.meaning.Roles.{Roles, roles, by_roles}
 use Rattle.volume.specs.meaning.Emptying.{by_state, new_parity_size, unused_in, reserve, entry_size}
 
 -- ==== zones that count

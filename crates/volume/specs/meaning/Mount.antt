@@ -10,7 +10,7 @@
 -- no older entry, and before the entries at the pointers, which are made of it.
 -- (w: the device after the first flush, by its roles; k: the look there; x: the lost drive, or no_drive.)
 use Rattle.std.specs.Prelude.{Bool, true, false, ◌&&◌, ◌||◌, not, ℕ, zero, suc, ◌+◌, ◌-◌, ◌*◌, min, List, [], ◌∷◌, ◌++◌, map, length, replicate, ltb, leb, eqb}
-use Rattle.tables.specs.meaning.Device.{Device, Store, reset, apply_all}
+use Rattle.tables.specs.meaning.Device.{Device, Store, reset, flush, apply_all}
 use Rattle.tables.specs.meaning.Basics.{pick}
 use Rattle.tables.specs.meaning.Below.{each_below, any_below, tabulate_from}
 use Rattle.tables.specs.meaning.Lists.{any_of, is_nil, concat}

@@ -1,7 +1,7 @@
 -- Document 01, "Refusals": when each call is refused, and by which number. "The least number that applies is given, and only under its
 -- condition." Each condition of the table is a definition, in the table's order; then each call lists the rows that it can meet.
 -- The device has no lengths of tables and buffers: refusal 2 takes them as numbers.
-use Rattle.std.specs.Prelude.{Bool, true, false, ◌&&◌, ◌||◌, not, ℕ, zero, suc, ◌+◌, ◌*◌, ◌/◌, ◌%◌, List, [], ◌∷◌, length, ltb, leb, eqb}
+use Rattle.std.specs.Prelude.{Bool, true, false, ◌&&◌, ◌||◌, not, ℕ, zero, suc, ◌+◌, ◌-◌, ◌*◌, ◌/◌, ◌%◌, min, List, [], ◌∷◌, length, ltb, leb, eqb}
 use Rattle.tables.specs.meaning.Basics.{pick}
 use Rattle.tables.specs.meaning.Below.{any_below, count_below, all_below}
 use Rattle.tables.specs.meaning.Drives.{no_drive}

@@ -44,6 +44,7 @@ use Rattle.volume.specs.meaning.State.{call_present}
 use Rattle.volume.specs.checks.CheckLaws.{present_list, present_is, left_out_is, opening_number}
 use Rattle.volume.specs.storing.Resetting.{reset_with, raised_list, reset_with_lem, reset_late_number, reset_full_in, reset_room, reset_refusal}
 use Rattle.volume.specs.checks.Records.{generations_in, generations_in_at}
+use Rattle.volume.specs.looking.MovedLogs.{is_emptied, new_generation}
 
 -- what the functions rely on
 pub record ResetReady (zone : Zone) (s : State) (ds : List ℕ) : Type 0 where
@@ -110,10 +111,10 @@ module _ (zone : Zone) (p : LogPlaces) (s : State) (xs ws ps ds : List ℕ) (k :
   unfolding reset_full
   room_full = rooms_full (general_room_at (asked_by zone p) (generations_in s) xs ws ps) g.drives emptied stays (λ d. (roles_of g t d).general_claim) drive_room
 
-  room_emptied : (d : ℕ) → d < g.drives → is_set (room_by zone p s xs ws ps).emptied d ≡ emptied d
+  room_emptied : (d : ℕ) → d < g.drives → is_emptied (room_by zone p s xs ws ps).emptied d ≡ emptied d
   room_emptied = rooms_emptied (general_room_at (asked_by zone p) (generations_in s) xs ws ps) g.drives emptied stays (λ d. (roles_of g t d).general_claim) drive_room
 
-  room_generation : (room_by zone p s xs ws ps).full ≡ false → (d : ℕ) → d < g.drives → emptied d ≡ true → get_or (room_by zone p s xs ws ps).generations d 0 ≡ (roles_of g t d).general_claim
+  room_generation : (room_by zone p s xs ws ps).full ≡ false → (d : ℕ) → d < g.drives → emptied d ≡ true → new_generation (room_by zone p s xs ws ps).emptied d ≡ (roles_of g t d).general_claim
   room_generation = rooms_generation (general_room_at (asked_by zone p) (generations_in s) xs ws ps) g.drives emptied stays (λ d. (roles_of g t d).general_claim) drive_room
 
   -- the new logs
@@ -136,8 +137,8 @@ module _ (zone : Zone) (p : LogPlaces) (s : State) (xs ws ps ds : List ℕ) (k :
       let all = emptyings_of a x in
       let own : reset_with all.to (is_set zone.here) z (record_at s z).generation (take all.to.zones (raised_list s z)) ≡ reset_stores g (is_set zone.here) (view_state s) z =
       ap (λ (h : Geometry). reset_with h (is_set zone.here) z (record_at s z).generation (take h.zones (raised_list s z))) (to_is a x xs ws ps k)
-      ∙ reset_with_lem (with_roles g (roles_after false (is_set x.emptied) (roles g (read_device g xs ws)))) (is_set zone.here) s z ok.zones_most
-      ∙ reset_stores_alike g (logs_of (roles_after false (is_set x.emptied) (roles g (read_device g xs ws))) g.drives) (is_set zone.here) (view_state s) z in
+      ∙ reset_with_lem (with_roles g (roles_after false (is_emptied x.emptied) (roles g (read_device g xs ws)))) (is_set zone.here) s z ok.zones_most
+      ∙ reset_stores_alike g (logs_of (roles_after false (is_emptied x.emptied) (roles g (read_device g xs ws))) g.drives) (is_set zone.here) (view_state s) z in
       emptied_made_all a x xs ws ps ds k (new_general_on all (generations_in s) xs ps) emptied (λ d. new_general g (force_of zone s t) (roles_of g t d) d (general_heads g (seen_in g t) d)) room_emptied (new_logs_lem full) budget left (reset_stores g (is_set zone.here) (view_state s) z) u
       (placed_on_drives g (reset_stores g (is_set zone.here) (view_state s) z) (reset_placed g ok (is_set zone.here) (view_state s) z hz))
       (subst (λ (l : List Store). Made all.to budget left (each_below (λ d. emptied_on all false (new_general_on all (generations_in s) xs ps d) d) all.from.drives ++ l) t u) own m)

@@ -1,9 +1,9 @@
 -- A write that needs no log but that of its entry (src/write_directly.rt). Where the earlier sectors of its first stripe are held, and there is no entry or its
 -- host's share and its log have the room that it asks for, refusals 14 and 15 do not apply, and the stores of the rules are those by a geometry that places
 -- that one log.
-use Rattle.std.specs.Prelude.{◌≡◌, ◌≢◌, ◌&&◌, ◌||◌, leb, eqb, Option, Some, None, Result, Ok, Err}
+use Rattle.std.specs.Prelude.{◌≡◌, ◌≢◌, ◌&&◌, ◌||◌, eqb, Option, Some, None, is_some, Result, Ok, Err}
 use Rattle.std.proofs.Math.Path.{refl, sym, ap, ap₂, subst}
-use Rattle.std.proofs.Common.{◌∙◌, true≢false, arith, le-ltb, ltb-true, leb-true, ne_eqb}
+use Rattle.std.proofs.Common.{◌∙◌, true≢false, arith, ltb-true, ne_eqb}
 use Rattle.std.proofs.Math.Bool.{Bool, true, false, not}
 use Prim.Native.Nat.{ℕ, suc, ◌+◌, ◌-◌, ◌*◌, ◌^◌, ◌≤◌, ◌<◌}
 use mathlib.Core.List.{List, map}
@@ -12,7 +12,7 @@ use Rattle.std.proofs.Math.Dec.{ltb}
 use Rattle.std.proofs.lemmas.Bool.{eqb-false}
 use Rattle.tables.specs.declared.Geometry.{Geometry}
 use Rattle.tables.specs.meaning.Basics.{pick}
-use Rattle.tables.specs.laws.Basics.{and_split, and_join, or_left}
+use Rattle.tables.specs.laws.Basics.{and_join, or_left}
 use Rattle.tables.specs.laws.Below.{none_any_below, all_below_all}
 use Rattle.tables.specs.meaning.Geometry.{Valid, stripe_sectors, data_zone}
 use Rattle.tables.specs.meaning.Device.{Device, ZoneView, Store}
@@ -27,10 +27,10 @@ use Rattle.tables.specs.laws.Made.{Made, MadeAppends}
 use Rattle.logs.specs.meaning.Entry.{parity_zone}
 use Rattle.volume.specs.declared.State.{State}
 use Rattle.volume.specs.declared.writing.Run.{Run}
-use Rattle.volume.specs.declared.write_directly.EntryPlace.{EntryPlace}
 use Rattle.volume.specs.declared.write_directly.WriteMade.{WriteMade}
 use Rattle.volume.specs.declared.Refusal.{Refusal}
 use Rattle.volume.specs.checks.RefusalNumbers.{refusal_number}
+use Rattle.volume.specs.declared.roles.Counting.{Counting}
 use Rattle.volume.specs.declared.write_room.EntryTaken.{EntryTaken}
 use Rattle.volume.specs.declared.Condition.{Condition}
 use Rattle.volume.specs.meaning.Content.{at, inside_stripe, fill_of, parity_drive_at}
@@ -51,6 +51,7 @@ use Rattle.volume.specs.looking.Knowing.{Readable, read_device, own_held, row_co
 use Rattle.volume.specs.looking.SeenByRoles.{data_seen}
 use Rattle.volume.specs.reading.ReadingHeld.{directly, direct_same}
 use Rattle.volume.specs.rows.SameShape.{SameShape, shape_with}
+use Rattle.volume.specs.checks.LogRoom.{either}
 use Rattle.volume.specs.emptying.Carried.{made_at_lem}
 use Rattle.volume.specs.writing.OwnStores.{write_with_same, cells_write, sectors_count}
 use Rattle.volume.specs.writing.WriteChecks.{zone_number}
@@ -59,24 +60,40 @@ use Rattle.volume.specs.writing.WriteRoom.{entry_taken_of, by_entry_lem, entry_t
 use Rattle.volume.specs.writing.WriteRun.{end_of, run_stores_of, RunReady, RunPlaced, handed_on, ended_with, Gives, run_full, run_gone, last_number, all_stores, write_zone_on}
 
 -- ---- what the code finds
--- drive d's parity log, with so much room or not, and the geometry that places it
-unfoldable pub entry_log : Geometry → List ℕ → List ℕ → ℕ → ℕ → EntryPlace
+-- the geometry that places drive d's parity log, if that has so much room
+unfoldable pub entry_log : Geometry → List ℕ → List ℕ → ℕ → ℕ → Option Geometry
 entry_log g xs ws d limit =
     let c = counting_of (strengths g d (zones_read g xs ws d) true) in
-    record { alone = not c.lacks && leb limit (g.capacity - zone_pointer g ws d c.zone); geometry = with_parity g d c.zone }
+    pick (c.lacks || ltb (g.capacity - zone_pointer g ws d c.zone) limit) None (Some (with_parity g d c.zone))
 
 -- of an entry of so many sectors on drive d, by what is left of the host's share
-abbrev share_place : Geometry → ℕ → List ℕ → List ℕ → ℕ → ℕ → EntryPlace
-share_place g share xs ws d size = pick (ltb share size) (record { alone = false; geometry = g }) (entry_log g xs ws d (size + reserve g))
+abbrev share_place : Geometry → ℕ → List ℕ → List ℕ → ℕ → ℕ → Option Geometry
+share_place g share xs ws d size = pick (ltb share size) None (entry_log g xs ws d (size + reserve g))
 
 -- there may be no entry
-abbrev pub entry_place : Geometry → ℕ → List ℕ → List ℕ → EntryTaken → EntryPlace
-entry_place g share xs ws e = pick (eqb e.sectors 0) (record { alone = true; geometry = g }) (share_place g share xs ws e.drive e.sectors)
+abbrev pub entry_place : Geometry → ℕ → List ℕ → List ℕ → EntryTaken → Option Geometry
+entry_place g share xs ws e = pick (eqb e.sectors 0) (Some g) (share_place g share xs ws e.drive e.sectors)
 
 -- of a write from its zone's pointer on
-unfoldable pub direct_place : Run → List ℕ → List ℕ → EntryPlace
+unfoldable pub direct_place : Run → List ℕ → List ℕ → Option Geometry
 direct_place run xs ws =
-    pick (earlier_held run.zone.geometry run.zone.here ws run.zone.number run.pointer) (entry_place run.zone.geometry run.allowance.share xs ws (entry_taken_of run.zone (end_of run))) (record { alone = false; geometry = run.zone.geometry })
+    pick (earlier_held run.zone.geometry run.zone.here ws run.zone.number run.pointer) (entry_place run.zone.geometry run.allowance.share xs ws (entry_taken_of run.zone (end_of run))) None
+
+-- what is found is found in the case that gives it
+some_first : {A : Type 0} (b : Bool) (o : Option A) (x : A) → pick b o None ≡ Some x → (b ≡ true) × (o ≡ Some x)
+some_first true o x e = (refl, e)
+some_first false o x e = absurd (true≢false (sym (ap is_some e)))
+
+some_second : {A : Type 0} (b : Bool) (o : Option A) (x : A) → pick b None o ≡ Some x → (b ≡ false) × (o ≡ Some x)
+some_second true o x e = absurd (true≢false (sym (ap is_some e)))
+some_second false o x e = (refl, e)
+
+some_same : {A : Type 0} (x y : A) → Some x ≡ Some y → x ≡ y
+some_same {A = A} x y e = ap value e
+  where
+    value : Option A → A
+    value None = x
+    value (Some z) = z
 
 and_false : (b : Bool) → b && false ≡ false
 and_false true = refl
@@ -85,9 +102,10 @@ and_false false = refl
 -- a write that was made
 pub record MadeOn (run : Run) (c : Condition) (count : ℕ) (buffer xs ws xs' ws' : List ℕ) (m : WriteMade) : Type 0 where
   pub passed : zone_number run c ws ≡ 0
-  pub alone : (direct_place run xs ws).alone ≡ true
+  pub place : Geometry
+  pub alone : direct_place run xs ws ≡ Some place
   pub entry_is : (m.entry ≡ entry_taken_of run.zone (end_of run)) × (m.entry.drive < run.zone.geometry.drives) × (m.entry.sectors ≤ 17)
-  pub stores : MadeAppends (direct_place run xs ws).geometry (suc count) m.rest (run_stores_of run xs ws buffer) xs ws xs' ws'
+  pub stores : MadeAppends place (suc count) m.rest (run_stores_of run xs ws buffer) xs ws xs' ws'
 
 -- what trying a write came to: refused, or made, or neither; and then nothing has changed
 abbrev pub TriedOn : Run → Condition → ℕ → List ℕ → List ℕ → List ℕ → List ℕ → List ℕ → Result (Option WriteMade) Refusal → Type 0
@@ -95,7 +113,7 @@ TriedOn run c count buffer xs ws xs' ws' (Err r) = (refusal_number r ≡ zone_nu
 TriedOn run c count buffer xs ws xs' ws' (Ok None) = (zone_number run c ws ≡ 0) × (xs' ≡ xs) × (ws' ≡ ws)
 TriedOn run c count buffer xs ws xs' ws' (Ok (Some m)) = MadeOn run c count buffer xs ws xs' ws' m
 
-module _ (run : Run) (xs ws buffer : List ℕ) (ok : Valid run.zone.geometry) (logs_first : run.zone.geometry.logs ≡ 0) (sized : Sized run.zone.geometry xs ws) (p : RunPlaced run ws buffer) (alone : (direct_place run xs ws).alone ≡ true) where
+module _ (run : Run) (xs ws buffer : List ℕ) (ok : Valid run.zone.geometry) (logs_first : run.zone.geometry.logs ≡ 0) (sized : Sized run.zone.geometry xs ws) (p : RunPlaced run ws buffer) (to : Geometry) (alone : direct_place run xs ws ≡ Some to) where
   abbrev g : Geometry
   g = run.zone.geometry
 
@@ -127,7 +145,7 @@ module _ (run : Run) (xs ws buffer : List ℕ) (ok : Valid run.zone.geometry) (l
   abbrev q : ℕ
   q = strongest as_parity
 
-  abbrev place : EntryPlace
+  abbrev place : Option Geometry
   place = direct_place run xs ws
 
   own_below : own < g.drives
@@ -136,11 +154,7 @@ module _ (run : Run) (xs ws buffer : List ℕ) (ok : Valid run.zone.geometry) (l
   -- ---- the sectors that it reads are held
   held : earlier_held g run.zone.here ws z n ≡ true
   unfolding direct_place
-  held = go (earlier_held g run.zone.here ws z n) alone
-    where
-      go : (b : Bool) → (pick b (entry_place g share xs ws entry) (record { alone = false; geometry = g })).alone ≡ true → b ≡ true
-      go true e = refl
-      go false e = absurd (true≢false (sym e))
+  held = (some_first (earlier_held g run.zone.here ws z n) (entry_place g share xs ws entry) to alone).0
 
   abbrev start : ℕ
   start = stripe_of run.zone.geometry.drives run.zone.geometry.unit run.pointer * stripe_sectors run.zone.geometry
@@ -170,24 +184,26 @@ module _ (run : Run) (xs ws buffer : List ℕ) (ok : Valid run.zone.geometry) (l
   -- ---- so the place is its entry's
   placed : place ≡ entry_place g share xs ws entry
   unfolding direct_place
-  placed = ap (λ (b : Bool). pick b (entry_place g share xs ws entry) (record { alone = false; geometry = g })) held
+  placed = ap (λ (b : Bool). pick b (entry_place g share xs ws entry) None) held
 
   -- by a geometry that differs from its own in where logs lie
-  place_is : place.geometry ≡ with_logs g place.geometry.logs
-  unfolding direct_place entry_log
-  place_is = go (earlier_held g run.zone.here ws z n) (eqb entry.sectors 0) (ltb share entry.sectors)
+  place_is : to ≡ with_logs g to.logs
+  unfolding entry_log
+  place_is = go (eqb entry.sectors 0) (ltb share entry.sectors) (sym placed ∙ alone)
     where
-      found : EntryPlace
-      found = entry_log g xs ws entry.drive (entry.sectors + reserve g)
+      shaped : (h : Geometry) → h ≡ with_logs g h.logs → Some h ≡ Some to → to ≡ with_logs g to.logs
+      shaped h e k = subst (λ (x : Geometry). x ≡ with_logs g x.logs) (some_same h to k) e
 
-      go : (b c d : Bool) → let q = pick b (pick c (record { alone = true; geometry = g }) (pick d (record { alone = false; geometry = g }) found)) (record { alone = false; geometry = g }) in q.geometry ≡ with_logs g q.geometry.logs
-      go true true d = refl
-      go true false true = refl
-      go true false false = refl
-      go false c d = refl
+      own_log : Counting
+      own_log = counting_of (strengths g entry.drive (zones_read g xs ws entry.drive) true)
 
-  pub directly_past : StoresPast g place.geometry ws ws
-  directly_past = record { shape = subst (SameShape g) (sym place_is) (shape_with g place.geometry.logs); written_long = sized.written_long; behind = record { least = λ d y hd hy hb. omega arith } }
+      go : (c d : Bool) → pick c (Some g) (pick d None (entry_log g xs ws entry.drive (entry.sectors + reserve g))) ≡ Some to → to ≡ with_logs g to.logs
+      go true d e = shaped g refl e
+      go false true e = absurd (true≢false (sym (ap is_some e)))
+      go false false e = shaped (with_parity g entry.drive own_log.zone) refl (some_second (own_log.lacks || ltb (g.capacity - zone_pointer g ws entry.drive own_log.zone) (entry.sectors + reserve g)) (Some (with_parity g entry.drive own_log.zone)) to e).1
+
+  pub directly_past : StoresPast g to ws ws
+  directly_past = record { shape = subst (SameShape g) (sym place_is) (shape_with g to.logs); written_long = sized.written_long; behind = record { least = λ d y hd hy hb. omega arith } }
 
   -- ---- by a state that says so of the zone
   module _ (s : State) (ds : List ℕ) (h : RunReady run s ws buffer) where
@@ -204,31 +220,26 @@ module _ (run : Run) (xs ws buffer : List ℕ) (ok : Valid run.zone.geometry) (l
     module _ (inside : inside_stripe g end ≡ true) (here : present own ≡ true) where
       shared : place ≡ share_place g share xs ws own (entry_size g end)
       shared =
-          let none : EntryPlace = record { alone = true; geometry = g } in
           let some = and_join (inside_stripe g end) (present own) inside here in
-          placed ∙ by_entry_lem run.zone end none (share_place g share xs ws own entry.sectors) ∙ ap (λ (b : Bool). pick b (share_place g share xs ws own entry.sectors) none) some
+          placed ∙ by_entry_lem run.zone end (Some g) (share_place g share xs ws own entry.sectors) ∙ ap (λ (b : Bool). pick b (share_place g share xs ws own entry.sectors) (Some g)) some
           ∙ ap (share_place g share xs ws own) (entry_takes run.zone end some)
 
+      -- (the share, and then the log)
+      shares : (ltb share (entry_size g end) ≡ false) × (entry_log g xs ws own (write_limit g end) ≡ Some to)
+      shares = some_second (ltb share (entry_size g end)) (entry_log g xs ws own (write_limit g end)) to (sym shared ∙ alone)
+
       has_share : ltb share (entry_size g end) ≡ false
-      has_share = go (ltb share (entry_size g end)) (sym (ap (λ (p : EntryPlace). p.alone) shared) ∙ alone)
-        where
-          go : (b : Bool) → (pick b (record { alone = false; geometry = g }) (entry_log g xs ws own (write_limit g end))).alone ≡ true → b ≡ false
-          go true e = absurd (true≢false (sym e))
-          go false e = refl
+      has_share = shares.0
 
-      log_found : place ≡ entry_log g xs ws own (write_limit g end)
-      log_found = shared ∙ ap (λ (b : Bool). pick b (record { alone = false; geometry = g }) (entry_log g xs ws own (write_limit g end))) has_share
-
-      tested : not (eqb (as_parity q) 0) && leb (write_limit g end) (g.capacity - zone_pointer g ws own q) ≡ true
+      found : ((eqb (as_parity q) 0 || ltb (g.capacity - zone_pointer g ws own q) (write_limit g end)) ≡ false) × (Some (with_parity g own q) ≡ Some to)
       unfolding entry_log
-      tested = sym (ap (λ (p : EntryPlace). p.alone) log_found) ∙ alone
+      found = some_second (eqb (as_parity q) 0 || ltb (g.capacity - zone_pointer g ws own q) (write_limit g end)) (Some (with_parity g own q)) to shares.1
+
+      tested : (eqb (as_parity q) 0 ≡ false) × (ltb (g.capacity - zone_pointer g ws own q) (write_limit g end) ≡ false)
+      tested = either (eqb (as_parity q) 0) (ltb (g.capacity - zone_pointer g ws own q) (write_limit g end)) found.0
 
       has_kind : as_parity q ≢ 0
-      has_kind = eqb-false (as_parity q) 0 (off (eqb (as_parity q) 0) (and_split (not (eqb (as_parity q) 0)) (leb (write_limit g end) (g.capacity - zone_pointer g ws own q)) tested).0)
-        where
-          off : (b : Bool) → not b ≡ true → b ≡ false
-          off true e = absurd (true≢false (sym e))
-          off false e = refl
+      has_kind = eqb-false (as_parity q) 0 tested.0
 
       claim_is : (r own).parity_claim ≡ as_parity q
       unfolding roles_in
@@ -255,15 +266,12 @@ module _ (run : Run) (xs ws buffer : List ℕ) (ok : Valid run.zone.geometry) (l
       unused_is = ap (λ (b : Bool). pick b 0 (g.capacity - length (w own parity_zone).sectors)) (ne_eqb (r own).parity_claim 0 has_claim) ∙ ap (λ (m : ℕ). g.capacity - m) log_length
 
       has_room_lem : ltb (unused_in g true r w own) (write_limit g end) ≡ false
-      has_room_lem =
-          let enough = leb-true (write_limit g end) (g.capacity - zone_pointer g ws own q) (and_split (not (eqb (as_parity q) 0)) (leb (write_limit g end) (g.capacity - zone_pointer g ws own q)) tested).1 in
-          le-ltb (unused_in g true r w own) (write_limit g end) (omega (arith, unused_is, enough))
+      has_room_lem = ap (λ (m : ℕ). ltb m (write_limit g end)) unused_is ∙ tested.1
 
-      logs_are : place.geometry.logs ≡ (other_than q + 4 * q) * 2 ^ (4 * own)
-      unfolding entry_log
-      logs_are = ap (λ (p : EntryPlace). p.geometry.logs) log_found
+      logs_are : to.logs ≡ (other_than q + 4 * q) * 2 ^ (4 * own)
+      logs_are = ap (λ (h : Geometry). h.logs) (sym (some_same (with_parity g own q) to found.1))
 
-      log_at : cell (with_logs g place.geometry.logs) own parity_zone ≡ cell g own (zone_of_role (r own) parity_zone)
+      log_at : cell (with_logs g to.logs) own parity_zone ≡ cell g own (zone_of_role (r own) parity_zone)
       log_at =
           ap (λ (m : ℕ). cell (with_logs g m) own parity_zone) logs_are
           ∙ ap (λ (p : ℕ). first_cell g own + p) (parity_placed_lem g own q q_below ∙ sym parity_is ∙ sym (zone_at_first g logs_first own (r own).parity))
@@ -309,21 +317,21 @@ module _ (run : Run) (xs ws buffer : List ℕ) (ok : Valid run.zone.geometry) (l
     all_stores_lem = ap (map (carry (placed_by r))) own_stores_lem
 
     -- ---- made by the geometry that places the entry's log, they are the rules'
-    data_at : (d : ℕ) → cell (with_logs g place.geometry.logs) d (data_zone z) ≡ cell g d (zone_of_role (r d) (data_zone z))
+    data_at : (d : ℕ) → cell (with_logs g to.logs) d (data_zone z) ≡ cell g d (zone_of_role (r d) (data_zone z))
     data_at d =
-        let m = place.geometry.logs in
+        let m = to.logs in
         ap (λ (p : ℕ). first_cell g d + p) (place_of_other (with_logs g m) d (data_zone z) (omega arith) ∙ sym (place_of_other g d (data_zone z) (omega arith))) ∙ sym (ap (cell g d) (role_of_other (r d) (data_zone z) (omega arith)))
 
-    cells_are : CellsAt g place.geometry.logs r (run_stores_of run xs ws buffer)
+    cells_are : CellsAt g to.logs r (run_stores_of run xs ws buffer)
     unfolding run_stores_of
-    cells_are = cells_write g place.geometry.logs r z (run_content g present (read_device g xs ws) z run.zone.generation n ss) present data_at run.zone.generation n run.count log_at
+    cells_are = cells_write g to.logs r z (run_content g present (read_device g xs ws) z run.zone.generation n ss) present data_at run.zone.generation n run.count log_at
 
-    pub directly_ends : (count rest : ℕ) (xs' ws' : List ℕ) → MadeAppends (direct_place run xs ws).geometry (suc count) rest (run_stores_of run xs ws buffer) xs ws xs' ws'
+    pub directly_ends : (count rest : ℕ) (xs' ws' : List ℕ) → MadeAppends to (suc count) rest (run_stores_of run xs ws buffer) xs ws xs' ws'
         → Gives (write_zone_on run s buffer count (tables_of xs ws ds)) (ended_with run s rest) (tables_of xs' ws' ds)
     unfolding write_zone_on
     directly_ends count rest xs' ws' m =
         let u : Tables = tables_of xs' ws' ds in
         let number : last_number run t ≡ 0 = ap₂ (λ (a b : Bool). pick a 14 (pick b 15 0)) full_none gone_none in
         let by_place = subst (λ (k : Geometry). Made k (suc count) rest (run_stores_of run xs ws buffer) t u) place_is (m.made ds) in
-        let made = made_at_lem g place.geometry.logs r (suc count) rest (run_stores_of run xs ws buffer) t u cells_are by_place in
+        let made = made_at_lem g to.logs r (suc count) rest (run_stores_of run xs ws buffer) t u cells_are by_place in
         storing_ends g (last_number run t) (all_stores run s buffer t) (handed_on run s) s count t rest u number (subst (λ (l : List Store). Made g (suc count) rest l t u) (sym all_stores_lem) made)

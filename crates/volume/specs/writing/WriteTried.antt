@@ -64,5 +64,5 @@ module _ (run : Run) (c : Condition) (s : State) (count : ℕ) (buffer xs ws xs'
 
     pub tried_made : (ds : List ℕ) → Gives (write_asked_on run s buffer count (tables_of xs ws ds)) (ended_with run s m.rest) (tables_of xs' ws' ds)
     tried_made ds =
-        let (x, y) = directly_ends run xs ws buffer ok h.logs_first h.sized (asked_placed run c xs ws buffer h (zone_passed run c ws t.passed).fits) t.alone s ds made_ready count m.rest xs' ws' t.stores in
+        let (x, y) = directly_ends run xs ws buffer ok h.logs_first h.sized (asked_placed run c xs ws buffer h (zone_passed run c ws t.passed).fits) t.place t.alone s ds made_ready count m.rest xs' ws' t.stores in
         (x ∙ ap (λ (w : CallResult). w.outcome) (asked_passed t.passed count ds), y ∙ ap (λ (w : CallResult). w.tables) (asked_passed t.passed count ds))

@@ -1,11 +1,11 @@
-use Prim.Native.Nat.{◌+◌, ◌*◌, suc}
-use mathlib.Core.Path.{◌≡◌, ◌∙◌, refl, sym}
+use Prim.Native.Nat.{suc}
+use mathlib.Core.Path.{◌≡◌, ◌∙◌, refl}
 use mathlib.Core.Logic.{◌≢◌}
 use native.Mathlib.Omega.{arith}
 use native.Mathlib.Numerals.{add-one}
 use borrow.Author.Rules.{rules}
 use borrow.Author.Tests.{ne_eqb, eq-eqb}
-use Rattle.grouped.specs.places.Places.{Noted, noted_drive, noted_missing, lacks_wrong, placed_drive}
+use Rattle.grouped.specs.places.Places.{Noted, noted_drive, noted_missing, lacks_wrong}
 use Rattle.grouped.proofs.places.place_present.Statement.{statement}
 use Rattle.grouped.proofs.places.place_present.Tie as tie
 

@@ -1,26 +1,10 @@
-use Rattle.std.proofs.Common.{false, sym, ◌∙◌, arith}
-use Rattle.logs.specs.code.KeptLabel.{label_left, label_on}
-use Rattle.logs.specs.code.Steps.{sectors_of_log, low_in_log, climbs_in_log}
+use Rattle.std.proofs.Common.{rules, false, ◌∙◌}
+use Rattle.logs.specs.code.Query.{log_heads}
+use Rattle.logs.specs.code.KeptLabel.{later_label, last_label_fold}
+use Rattle.logs.specs.declared.Found.TheVariants.{Bad}
 use Rattle.logs.proofs.folds.last_label.Goals as goal
-
-pub loop-f-smaller : goal.loop-f-smaller
-loop-f-smaller c =
-    let a = c.args in
-    let k = climbs_in_log a.g a.log false a.sectors.now c.loop-f.p c.loop-f.invariant.within c.in-Whole.f c.in-Whole.q (sym c.in-Whole.ensures) in
-    omega (arith, k.0, k.1)
-
-pub loop-f-preserved : goal.loop-f-preserved
-loop-f-preserved c =
-    let a = c.args in
-    let l = c.loop-f in
-    let e = label_on a.g a.log.drive false (sectors_of_log a.g a.log a.sectors.now) l.p (low_in_log a.g a.log a.sectors.now l.p l.invariant.within) l.last c.in-Whole.f c.in-Whole.q (sym c.in-Whole.ensures) in
-    record {
-      within = (climbs_in_log a.g a.log false a.sectors.now l.p l.invariant.within c.in-Whole.f c.in-Whole.q (sym c.in-Whole.ensures)).1;
-      same = rw c.later_label-last.ensures (sym e ∙ l.invariant.same);
-    }
 
 pub returns : goal.returns
 returns c =
     let a = c.args in
-    let l = c.loop-f in
-    sym (label_left a.g a.log.drive false (sectors_of_log a.g a.log a.sectors.now) l.p (low_in_log a.g a.log a.sectors.now l.p l.invariant.within) l.last c.in_default.field-0 (sym c.in_default.ensures)) ∙ l.invariant.same
+    c.fold_log.ensures (λ l p f. later_label f l) (λ x p f y l s e. search rules) ∙ last_label_fold a.g 0 Bad (log_heads a.g a.log.drive false a.log.zone a.log.written a.sectors.now)

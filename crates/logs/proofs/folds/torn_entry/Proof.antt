@@ -1,6 +1,4 @@
-use denote.Enum.Declared.{tag_of}
 use mathlib.Core.List.{List, []}
-use mathlib.Core.Logic.{⊎_elim}
 use Prim.Native.Nat.{ℕ, ◌<◌}
 use lib.ListN.{get_or}
 use Rattle.logs.specs.declared.Found.{Found}
@@ -9,13 +7,11 @@ use Rattle.logs.specs.code.Judge.{found}
 use Rattle.logs.specs.code.Query.{torn_seen}
 use Rattle.logs.specs.meaning.Walk.{Walked, walk_log}
 use Rattle.logs.specs.code.WalkCode.{log_sectors}
-use mathlib.Core.Path.{◌≡◌, ◌∙◌, sym, ap}
+use mathlib.Core.Path.{◌≡◌, ◌∙◌, sym}
 use Rattle.logs.specs.code.Answers.{torn_none, torn_found}
 use Rattle.logs.specs.laws.Places.{walk_places}
 use Rattle.tables.specs.laws.Below.{length_tabulate}
-use native.Mathlib.Omega.{arith}
 use borrow.Author.Rules.{rules}
-use Rattle.logs.specs.contracts.WalkEnd as WalkEnd
 use Rattle.logs.proofs.folds.torn_entry.Statement.{statement}
 use Rattle.logs.proofs.folds.torn_entry.Tie as tie
 

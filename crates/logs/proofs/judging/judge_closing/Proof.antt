@@ -1,5 +1,5 @@
 use Rattle.logs.specs.code.Judge.{judged_unfit, judged_other, judged_legal, fields_closing}
-use Rattle.logs.specs.meaning.Entry.{Header, closing, encode, kind_of_log, fits_log, read_fields}
+use Rattle.logs.specs.meaning.Entry.{Header, closing, encode, fits_log, read_fields}
 use Rattle.tables.specs.meaning.LittleEndian.{same_bytes}
 use mathlib.Core.Bool.{Bool, ◌&&◌}
 use mathlib.Core.Path.{◌≡◌, ◌∙◌, refl, sym, ap}

@@ -1,4 +1,4 @@
-use Rattle.std.proofs.Common.{◌≡◌, ℕ, suc, zero, ◌+◌, ◌-◌, ◌<◌, ◌≤◌, List, Bool, true, false, true≢false, ◌&&◌, eqb, length, get_or, take, drop, get_or-take, get_or-drop, length-drop, length-take-le, refl, sym, ap, ◌∙◌, arith, eq-eqb, eqb-true, ne_eqb}
+use Rattle.std.proofs.Common.{◌≡◌, ℕ, suc, zero, ◌+◌, ◌-◌, ◌<◌, List, Bool, true, false, true≢false, ◌&&◌, eqb, length, get_or, take, drop, get_or-take, get_or-drop, length-drop, length-take-le, refl, sym, ap, ◌∙◌, arith, eq-eqb, eqb-true, ne_eqb}
 use Rattle.std.specs.Int.Bits.{bit_or, or_zero_l}
 use Rattle.std.proofs.lemmas.Nat.{le_or_l}
 use Rattle.logs.specs.code.Lays.{zeros_from, zero_go, zero_stop, zero_end}

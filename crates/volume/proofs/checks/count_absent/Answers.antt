@@ -1,4 +1,4 @@
-use Rattle.std.proofs.Common.{◌≡◌, ◌∙◌, Bool, false, not, take, arith, rules}
+use Rattle.std.proofs.Common.{◌≡◌, ◌∙◌, false, not, take, arith, rules}
 use Rattle.std.specs.List.{count_by}
 use Rattle.volume.proofs.Ranges.{count_below-from_take}
 use Rattle.volume.proofs.checks.count_absent.Goals as goal

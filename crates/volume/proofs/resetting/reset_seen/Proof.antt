@@ -21,7 +21,7 @@ use Rattle.volume.specs.meaning.Emptying.{reset_all}
 use Rattle.volume.specs.meaning.CallContracts.{record_at, view_state, is_set, roles_of, seen_in, state_held}
 use Rattle.volume.specs.laws.CallContracts.{storing_refused, storing_ends}
 use Rattle.volume.specs.laws.LogPlaces.{valid_with_logs}
-use Rattle.volume.specs.looking.MovedLogs.{moved_logs}
+use Rattle.volume.specs.looking.MovedLogs.{is_emptied, moved_logs}
 use Rattle.volume.specs.checks.LogRoom.{emptyings_of, general_room_at, room_of, placed_valid, placed_zones}
 use Rattle.volume.specs.emptying.Emptyings.{EmptyingReady, emptied_on, new_general_on}
 use Rattle.volume.specs.emptying.RoomMoves.{room_ready}
@@ -100,7 +100,7 @@ reset-from-requires c κs =
     let zones = placed_zones g a.places a.sectors.now a.written.now a.pointers.now k in
     subst (λ (e : Emptyings). (Valid e.from × Valid e.to) × (EmptyingReady false e a.pointers.now a.sectors.now a.written.now a.durable.now × (e.to ≡ e.to) × (a.zone.number < e.from.zones) × ((record_at a.state a.zone.number).generation < worn_generation)))
     (sym y.emptyings_of-all.ensures)
-    ((ok, valid_with_logs a.places.geometry (moved_logs a.places.geometry false (is_set x.emptied) a.places.geometry.drives) ok), (room_ready asked x a.sectors.now a.written.now a.pointers.now k a.durable.now r.durable_long, refl, rw zones r.zone_in_lem, r.fresh))
+    ((ok, valid_with_logs a.places.geometry (moved_logs a.places.geometry false (is_emptied x.emptied) a.places.geometry.drives) ok), (room_ready asked x a.sectors.now a.written.now a.pointers.now k a.durable.now r.durable_long, refl, rw zones r.zone_in_lem, r.fresh))
 
 returns-2 : tie.Need-returns
 unfolding reset_zone_on

@@ -126,9 +126,9 @@ fn read(
     };
     let t = sizes_for(h, most);
     answer.fill(UNREAD);
-    let lent = &mut answer[..t.answer];
-    let code = read_prefixes(blocks, metadata, work, lent, t, h.handed, c);
-    let sum = replaying::checksum::adler_of(lent);
+    let part = &mut answer[..t.answer];
+    let code = read_prefixes(blocks, metadata, work, part, t, h.handed, c);
+    let sum = replaying::checksum::adler_of(part);
     Reply { code, sum }
 }
 

@@ -1,3 +1,4 @@
+pub mod Reading
+pub mod RefusalNumbers
 pub mod Segment
 pub mod Stripes
-pub mod Reading

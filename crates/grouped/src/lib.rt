@@ -5,7 +5,7 @@
 #![tactic(auto)]
 
 ghost use Rattle.std.specs.Prelude.{◌≡◌};
-ghost use Rattle.grouped.specs.reading.RefusalNumbers.{refusal_number};
+ghost use Rattle.grouped.specs.meaning.RefusalNumbers.{refusal_number};
 
 pub mod checks;
 pub mod heap;

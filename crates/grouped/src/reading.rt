@@ -4,7 +4,7 @@ ghost use Rattle.grouped.specs.meaning.Segment.{total_blocks};
 ghost use Rattle.grouped.specs.meaning.Reading.{later_of, newest, numbers_refused, metadata_number, request, grouped_number, grouped_left};
 ghost use Rattle.grouped.specs.laws.Segment.{Valid, Sized};
 ghost use Rattle.grouped.specs.places.Placed.{Placed, Found};
-ghost use Rattle.grouped.specs.reading.RefusalNumbers.{number_of};
+ghost use Rattle.grouped.specs.meaning.RefusalNumbers.{number_of};
 ghost use Rattle.grouped.specs.reading.Blocks.{add_block, rebuilt_block, block_noted_at, MetadataRead};
 
 use super::{Refusal, Segment};

@@ -2,7 +2,7 @@
 use Rattle.std.specs.Prelude.{◌≡◌, Bool, ◌||◌, false, ℕ, List, length}
 use Rattle.tables.specs.declared.Geometry.{Geometry}
 use Rattle.tables.specs.meaning.Tables.{Tables, tables_of}
-use Rattle.volume.specs.checks.RefusalNumbers.{number_of}
+use Rattle.volume.specs.meaning.RefusalNumbers.{number_of}
 use Rattle.volume.specs.declared.looking.Survey.{Survey}
 use Rattle.mounting.specs.declared.rooms.Plan.{Plan}
 use Rattle.volume.specs.meaning.CallContracts.{is_set, roles_of, seen_in}

@@ -15,7 +15,7 @@ use Rattle.tables.specs.meaning.Tables.{Tables, tables_of, cell, device_of, run_
 use Rattle.tables.specs.laws.Made.{Made}
 use Rattle.tables.specs.laws.Counted.{run_covered}
 use Rattle.tables.specs.laws.PointerOrder.{run_most}
-use Rattle.volume.specs.checks.RefusalNumbers.{number_of}
+use Rattle.volume.specs.meaning.RefusalNumbers.{number_of}
 use Rattle.volume.specs.declared.State.{State}
 use Rattle.volume.specs.declared.Outcome.{Outcome}
 use Rattle.volume.specs.declared.Answer.{Answer}

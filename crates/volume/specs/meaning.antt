@@ -5,6 +5,7 @@ pub mod Content
 pub mod Emptying
 pub mod Hosts
 pub mod Mount
+pub mod RefusalNumbers
 pub mod Refusals
 pub mod Report
 pub mod Roles

@@ -2,7 +2,7 @@
 // it. The write is made where it needs nothing else of the state, which is where it needs no log but that of its entry; the read never does.
 ghost use Rattle.std.specs.Prelude.{◌≡◌, false, ◌<◌};
 ghost use Rattle.tables.specs.meaning.Geometry.{Valid, zone_sectors};
-ghost use Rattle.volume.specs.checks.RefusalNumbers.{number_of};
+ghost use Rattle.volume.specs.meaning.RefusalNumbers.{number_of};
 ghost use Rattle.volume.specs.checks.ByRecord.{RecordFits};
 ghost use Rattle.volume.specs.writing.Writing.{write_asked};
 ghost use Rattle.volume.specs.writing.WriteByRecord.{recorded_of, WrittenBy};

@@ -10,7 +10,7 @@ ghost use Rattle.volume.specs.meaning.State.{pointer_in};
 ghost use Rattle.volume.specs.meaning.Refusals.{state_within};
 ghost use Rattle.volume.specs.meaning.Answers.{refused_at};
 ghost use Rattle.volume.specs.meaning.CallContracts.{record_at, view_state, is_set};
-ghost use Rattle.volume.specs.checks.RefusalNumbers.{refusal_number, number_of};
+ghost use Rattle.volume.specs.meaning.RefusalNumbers.{refusal_number, number_of};
 ghost use Rattle.volume.specs.checks.CheckLaws.{present_list, opening_from, opened_from, Tested};
 
 use super::{Answer, BadPlace, Outcome, Refusal, State};

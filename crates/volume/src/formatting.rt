@@ -5,7 +5,7 @@ ghost use Rattle.tables.specs.meaning.Geometry.{Valid, physical_zones, cells, to
 ghost use Rattle.tables.specs.meaning.Phases.{on_present};
 ghost use Rattle.tables.specs.meaning.Tables.{tables_of};
 ghost use Rattle.tables.specs.laws.Made.{Made, MadeAppends, MadePointers};
-ghost use Rattle.volume.specs.checks.RefusalNumbers.{number_of};
+ghost use Rattle.volume.specs.meaning.RefusalNumbers.{number_of};
 ghost use Rattle.volume.specs.meaning.State.{with_shares};
 ghost use Rattle.volume.specs.meaning.Calls.{format_stores, format_state};
 ghost use Rattle.volume.specs.meaning.Hosts.{fresh_shares};

@@ -3,7 +3,7 @@ ghost use Rattle.std.specs.Prelude.{◌≡◌, not, ℕ, length};
 ghost use Rattle.tables.specs.meaning.Drives.{find_below};
 ghost use Rattle.tables.specs.meaning.Geometry.{Valid, cells};
 ghost use Rattle.tables.specs.meaning.Tables.{tables_of, zone_place};
-ghost use Rattle.volume.specs.checks.RefusalNumbers.{number_of};
+ghost use Rattle.volume.specs.meaning.RefusalNumbers.{number_of};
 ghost use Rattle.volume.specs.meaning.CallContracts.{is_set, look_on};
 ghost use Rattle.volume.specs.meaning.Refusals.{first_bad_place};
 ghost use Rattle.volume.specs.meaning.Rules.{showing, zone_shown};

@@ -3,7 +3,7 @@ ghost use Rattle.std.specs.Prelude.{◌≡◌};
 ghost use Rattle.volume.specs.meaning.State.{condition_number, condition_of_number, owner_number, owner_of_number};
 ghost use Rattle.volume.specs.meaning.CallContracts.{answer_number};
 ghost use Rattle.volume.specs.meaning.Report.{told_number};
-ghost use Rattle.volume.specs.checks.RefusalNumbers.{refusal_number};
+ghost use Rattle.volume.specs.meaning.RefusalNumbers.{refusal_number};
 
 use super::{Answer, Condition, Owner, Refusal, ReportedCondition};
 

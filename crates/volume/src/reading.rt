@@ -7,7 +7,7 @@ ghost use Rattle.tables.specs.meaning.Below.{tabulate_from};
 ghost use Rattle.tables.specs.meaning.Lists.{concat};
 ghost use Rattle.tables.specs.meaning.Geometry.{Valid, cells, total_bytes, zone_sectors};
 ghost use Rattle.tables.specs.meaning.Tables.{tables_of};
-ghost use Rattle.volume.specs.checks.RefusalNumbers.{number_of};
+ghost use Rattle.volume.specs.meaning.RefusalNumbers.{number_of};
 ghost use Rattle.volume.specs.meaning.Rules.{value_at, seal_limit};
 ghost use Rattle.volume.specs.meaning.Refusals.{gone_in, zone_of, offset_of};
 ghost use Rattle.volume.specs.meaning.State.{pointer_in};

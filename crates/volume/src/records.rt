@@ -47,29 +47,46 @@ pub fn blank_record() -> ZoneRecord
 }
 
 // The generations of the state's zones.
+// A loop, here and in the next three: `map` takes the records by value, and a compact then takes 3 KB more of stack and a quarter more time.
 pub fn generations_of(state: State) -> [u64; MAX_ZONES]
     ensures { result ≡ generations_in state }
 {
-    state.zones.map(|r| r.generation)
+    let mut generations = [0; MAX_ZONES];
+    for z in 0..MAX_ZONES {
+        generations[z] = state.zones[z].generation;
+    }
+    generations
 }
 
 // The pointers of the state's zones.
 pub fn points_of(state: State) -> [usize; MAX_ZONES]
     ensures { result ≡ points_in state }
 {
-    state.zones.map(|r| pointer_of(r.condition))
+    let mut points = [0; MAX_ZONES];
+    for z in 0..MAX_ZONES {
+        points[z] = pointer_of(state.zones[z].condition);
+    }
+    points
 }
 
 // The generations that a look shows.
 pub fn generations_shown(look: Look) -> [u64; MAX_ZONES]
     ensures { result ≡ generations_shown look }
 {
-    look.zones.map(|zone| zone.generation)
+    let mut generations = [0; MAX_ZONES];
+    for z in 0..MAX_ZONES {
+        generations[z] = look.zones[z].generation;
+    }
+    generations
 }
 
 // The pointers that a look shows.
 pub fn points_shown(look: Look) -> [usize; MAX_ZONES]
     ensures { result ≡ points_shown look }
 {
-    look.zones.map(|zone| zone.pointer)
+    let mut points = [0; MAX_ZONES];
+    for z in 0..MAX_ZONES {
+        points[z] = look.zones[z].pointer;
+    }
+    points
 }

@@ -9,7 +9,7 @@ ghost use Rattle.tables.specs.meaning.Phases.{on_present};
 ghost use Rattle.tables.specs.meaning.Tables.{tables_of};
 ghost use Rattle.tables.specs.laws.Made.{Made, MadeAppends, MadePointers};
 ghost use Rattle.logs.specs.meaning.Entry.{worn_generation};
-ghost use Rattle.volume.specs.checks.RefusalNumbers.{number_of};
+ghost use Rattle.volume.specs.meaning.RefusalNumbers.{number_of};
 ghost use Rattle.volume.specs.declared.Answer.TheVariants.{Finished, Unfinished};
 ghost use Rattle.volume.specs.meaning.State.{pointer_in};
 ghost use Rattle.volume.specs.meaning.CallContracts.{record_at, is_set, reset_on, state_held, view_state};

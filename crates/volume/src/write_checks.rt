@@ -1,7 +1,7 @@
 // Refusals 7 to 12, 18 and 19 of a write, and 15: what its first stripe needs. No store is made before the last of them has passed.
 ghost use Rattle.std.specs.Prelude.{◌≡◌, ◌≤◌, ◌<◌, length};
 ghost use Rattle.tables.specs.meaning.Geometry.{Valid, zone_sectors, cells};
-ghost use Rattle.volume.specs.checks.RefusalNumbers.{number_of};
+ghost use Rattle.volume.specs.meaning.RefusalNumbers.{number_of};
 ghost use Rattle.volume.specs.meaning.State.{pointer_in};
 ghost use Rattle.volume.specs.meaning.Refusals.{gone_before};
 ghost use Rattle.volume.specs.meaning.CallContracts.{is_set};

@@ -1,7 +1,7 @@
 // What the C edge makes of a call's numbers and bytes before the call, and of its outcome after it.
 ghost use Rattle.std.specs.Prelude.{◌≡◌, ◌+◌, ◌*◌, ◌<◌, length};
 ghost use Rattle.tables.specs.meaning.Geometry.{Valid};
-ghost use Rattle.volume.specs.checks.RefusalNumbers.{number_of};
+ghost use Rattle.volume.specs.meaning.RefusalNumbers.{number_of};
 ghost use Rattle.volume.specs.meaning.CallContracts.{answer_number};
 ghost use Rattle.zrv.specs.meaning.Bytes.{state_bytes};
 ghost use Rattle.zrv.specs.meaning.EdgeCalls.{shape_of, named_of, sizes_fit, state_bad, input_number, sizes_number, unread_state, state_after, with_number, place_number};

@@ -2,7 +2,7 @@
 ghost use Rattle.std.specs.Prelude.{◌≡◌, ◌+◌, ◌*◌, ◌≤◌, length};
 ghost use Rattle.tables.specs.meaning.Geometry.{Valid};
 ghost use Rattle.tables.specs.meaning.Lists.{overlay};
-ghost use Rattle.volume.specs.checks.RefusalNumbers.{number_of};
+ghost use Rattle.volume.specs.meaning.RefusalNumbers.{number_of};
 ghost use Rattle.volume.specs.meaning.CallContracts.{view_state};
 ghost use Rattle.zrv.specs.meaning.Bytes.{descriptor_to};
 ghost use Rattle.zrv.specs.meaning.EdgeCalls.{shape_of, answered, report_input, report_edge};

@@ -23,7 +23,8 @@ use Rattle.volume.specs.checks.CheckLaws.{present_list, present_is, opening_is, 
 use Rattle.volume.specs.checks.ZoneChecks.{present_good}
 use Rattle.compacting.specs.CompactMade.{CompactReady}
 use Rattle.compacting.specs.Compacting.{some_stale, compact_seen_on, number_opening, number_7, number_8, seen_on}
-use Rattle.volume.specs.checks.RefusalNumbers.{refusal_number, refusal_not_none}
+use Rattle.volume.specs.meaning.RefusalNumbers.{refusal_number}
+use Rattle.volume.specs.checks.RefusalNumbers.{refusal_not_none}
 use Rattle.tables.specs.declared.Geometry.{Geometry}
 use Rattle.compacting.proofs.compact.Goals as goal
 

@@ -12,7 +12,7 @@ use Rattle.tables.specs.meaning.Geometry.{physical_zones}
 use Rattle.tables.specs.meaning.Device.{Device}
 use Rattle.tables.specs.meaning.Tables.{tables_of, device_of, cell, zone_place}
 use Rattle.tables.specs.laws.TablesFrame.{pointers_good}
-use Rattle.volume.specs.checks.RefusalNumbers.{number_of}
+use Rattle.volume.specs.meaning.RefusalNumbers.{number_of}
 use Rattle.volume.specs.declared.State.{State}
 use Rattle.volume.specs.declared.Outcome.{Outcome}
 use Rattle.volume.specs.declared.Answer.TheVariants.{Finished}

@@ -21,7 +21,7 @@ use Rattle.volume.specs.declared.hosts.OpenZones.{OpenZones}
 use Rattle.volume.specs.meaning.State.{is_owner, hosts, StateView}
 use Rattle.volume.specs.meaning.Hosts.{limit_of, most_open, counts_as, counts, counts_to, open_zones, zones_of, over_limit, over_open, share_left}
 use Rattle.volume.specs.meaning.CallContracts.{record_seen}
-use Rattle.volume.specs.checks.RefusalNumbers.{number_of}
+use Rattle.volume.specs.meaning.RefusalNumbers.{number_of}
 
 -- ---- one zone, by its record; `most`: the sectors of a zone
 abbrev pub counts_within : ℕ → Condition → Bool

@@ -9,7 +9,7 @@ use Rattle.tables.specs.declared.Geometry.{Geometry}
 use Rattle.tables.specs.meaning.Basics.{pick}
 use Rattle.tables.specs.laws.Basics.{or_none}
 use Rattle.tables.specs.meaning.Geometry.{zone_sectors}
-use Rattle.volume.specs.checks.RefusalNumbers.{number_of}
+use Rattle.volume.specs.meaning.RefusalNumbers.{number_of}
 use Rattle.volume.specs.declared.Condition.{Condition}
 use Rattle.volume.specs.declared.writing.Run.{Run}
 use Rattle.volume.specs.meaning.State.{pointer_in, is_sealed, is_worn}

@@ -29,7 +29,7 @@ use Rattle.volume.specs.declared.State.{State}
 use Rattle.volume.specs.declared.writing.Run.{Run}
 use Rattle.volume.specs.declared.write_directly.WriteMade.{WriteMade}
 use Rattle.volume.specs.declared.Refusal.{Refusal}
-use Rattle.volume.specs.checks.RefusalNumbers.{refusal_number}
+use Rattle.volume.specs.meaning.RefusalNumbers.{refusal_number}
 use Rattle.volume.specs.declared.roles.Counting.{Counting}
 use Rattle.volume.specs.declared.write_room.EntryTaken.{EntryTaken}
 use Rattle.volume.specs.declared.Condition.{Condition}

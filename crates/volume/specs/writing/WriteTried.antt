@@ -17,7 +17,8 @@ use Rattle.volume.specs.declared.Refusal.{Refusal}
 use Rattle.volume.specs.declared.write_directly.WriteMade.{WriteMade}
 use Rattle.volume.specs.declared.writing.Run.{Run}
 use Rattle.volume.specs.meaning.CallContracts.{Result as CallResult}
-use Rattle.volume.specs.checks.RefusalNumbers.{refusal_number, refusal_not_none}
+use Rattle.volume.specs.meaning.RefusalNumbers.{refusal_number}
+use Rattle.volume.specs.checks.RefusalNumbers.{refusal_not_none}
 use Rattle.volume.specs.writing.WriteChecks.{zone_number, zone_passed}
 use Rattle.volume.specs.writing.WriteRun.{RunReady, RunAsked, RunStated, asked_placed, asked_ready, ended_with, Gives, asked_number, write_zone_on, write_asked_on}
 use Rattle.volume.specs.writing.WriteDirectly.{MadeOn, TriedOn, directly_ends}

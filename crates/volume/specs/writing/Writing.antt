@@ -13,7 +13,7 @@ use Rattle.tables.specs.meaning.Drives.{find_below}
 use Rattle.tables.specs.meaning.Device.{Store}
 use Rattle.tables.specs.meaning.Tables.{Tables, tables_of, device_of, buffer_fits, lengths_fit, pointers_bad}
 use Rattle.tables.specs.laws.TablesFrame.{lengths_are}
-use Rattle.volume.specs.checks.RefusalNumbers.{number_of}
+use Rattle.volume.specs.meaning.RefusalNumbers.{number_of}
 use Rattle.volume.specs.declared.Answer.TheVariants.{Refused}
 use Rattle.volume.specs.declared.Condition.{Condition}
 use Rattle.volume.specs.declared.State.{State}

@@ -8,7 +8,8 @@ use Rattle.grouped.specs.meaning.Reading.{request, metadata_number, newest, grou
 use Rattle.grouped.specs.places.Placed.{placed_found}
 use Rattle.grouped.specs.reading.Blocks.{block_noted_is}
 use Rattle.grouped.specs.reading.Call.{admitted, by_input, by_metadata, by_address, refused_left, finished_left_lem}
-use Rattle.grouped.specs.reading.RefusalNumbers.{refusal_number, refusal_not_none, number_err}
+use Rattle.grouped.specs.meaning.RefusalNumbers.{refusal_number}
+use Rattle.grouped.specs.reading.RefusalNumbers.{refusal_not_none, number_err}
 use Rattle.grouped.proofs.reading.read_grouped.Goals as goal
 
 pub returns-in_err-input_refusal : goal.returns-in_err-input_refusal

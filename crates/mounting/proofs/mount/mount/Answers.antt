@@ -13,7 +13,8 @@ use Rattle.volume.specs.looking.Surveying.{survey_lookable, Surveyed}
 use Rattle.mounting.specs.MountPlan.{Planning, PlanMade}
 use Rattle.mounting.specs.MountRooms.{Planned}
 use Rattle.mounting.specs.Mounting.{refused_shape, refused_logs, refused_full, mount_goes_on}
-use Rattle.volume.specs.checks.RefusalNumbers.{number_of, refusal_number, refusal_not_none}
+use Rattle.volume.specs.meaning.RefusalNumbers.{number_of, refusal_number}
+use Rattle.volume.specs.checks.RefusalNumbers.{refusal_not_none}
 use mathlib.Core.Bool.{Bool}
 use Rattle.tables.specs.declared.Geometry.{Geometry}
 use Rattle.volume.specs.declared.looking.Survey.{Survey}

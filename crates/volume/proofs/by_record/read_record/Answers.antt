@@ -9,7 +9,8 @@ use Rattle.volume.specs.declared.by_record.ByRecord.{ByRecord}
 use Rattle.volume.specs.meaning.Refusals.{zone_of, offset_of}
 use Rattle.volume.specs.reading.ReadZone.{ReadAsked, zone_read_number, zone_read_left, zone_by}
 use Rattle.volume.specs.reading.ReadByRecord.{ReadBy, read_by_first, read_by_8, read_by_asked, read_by_zone}
-use Rattle.volume.specs.checks.RefusalNumbers.{number_of, number_err, refusal_not_none}
+use Rattle.volume.specs.meaning.RefusalNumbers.{number_of}
+use Rattle.volume.specs.checks.RefusalNumbers.{number_err, refusal_not_none}
 use Rattle.volume.proofs.by_record.read_record.Goals as goal
 
 pub returns-in_err-opened : goal.returns-in_err-opened

@@ -13,7 +13,8 @@ use Rattle.volume.specs.looking.SeenByRoles.{seen_valid, seen_long}
 use Rattle.volume.specs.looking.Looking.{Lookable, shaped, shaped_first, look_refused, look_refused_shape}
 use Rattle.volume.specs.looking.ShownState.{state_seen}
 use Rattle.volume.specs.looking.Surveying.{survey_below, survey_refusal, survey_bad, survey_lookable, survey_finished}
-use Rattle.volume.specs.checks.RefusalNumbers.{number_of, refusal_number, refusal_not_none}
+use Rattle.volume.specs.meaning.RefusalNumbers.{number_of, refusal_number}
+use Rattle.volume.specs.checks.RefusalNumbers.{refusal_not_none}
 use Rattle.tables.specs.declared.Geometry.{Geometry}
 use Rattle.volume.proofs.looking.look.Goals as goal
 

@@ -11,7 +11,8 @@ use Rattle.volume.specs.looking.KnowingValues.{sector_within}
 use Rattle.volume.specs.meaning.CallContracts.{peek_number, past}
 use Rattle.volume.specs.reading.Peeking.{peek_accepted, peek_refused, peek_done, past_none}
 use Rattle.tables.specs.meaning.Geometry.{data_zone}
-use Rattle.volume.specs.checks.RefusalNumbers.{number_of, refusal_not_none}
+use Rattle.volume.specs.meaning.RefusalNumbers.{number_of}
+use Rattle.volume.specs.checks.RefusalNumbers.{refusal_not_none}
 use Rattle.std.specs.Prelude.{Result, Ok, Err, ⊤, is_err}
 use mathlib.Core.Bool.{Bool, true, false, true≢false}
 use mathlib.Core.Logic.{◌≢◌}

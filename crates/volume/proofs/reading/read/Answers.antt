@@ -16,7 +16,8 @@ use Rattle.volume.specs.checks.CheckLaws.{present_list, opening_is, tested, none
 use Rattle.volume.specs.checks.ZoneChecks.{pointer_within}
 use Rattle.volume.specs.reading.Reading.{opened_readable, buffer_long, read_first, read_8, read_refused}
 use Rattle.volume.specs.reading.ReadZone.{ReadAsked, zone_read_number, zone_read_left, zone_read_is, zone_left_is}
-use Rattle.volume.specs.checks.RefusalNumbers.{number_of, refusal_not_none}
+use Rattle.volume.specs.meaning.RefusalNumbers.{number_of}
+use Rattle.volume.specs.checks.RefusalNumbers.{refusal_not_none}
 use Rattle.tables.specs.declared.Geometry.{Geometry}
 use Rattle.volume.specs.declared.State.{State}
 use Rattle.volume.proofs.reading.read.Goals as goal

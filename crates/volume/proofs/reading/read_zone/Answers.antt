@@ -9,7 +9,8 @@ use Rattle.volume.specs.meaning.Refusals.{gone_in}
 use Rattle.volume.specs.meaning.CallContracts.{is_set, values_on}
 use Rattle.volume.specs.reading.Reading.{read_by_roles, late_number}
 use Rattle.volume.specs.reading.ReadZone.{zone_read_number, zone_read_ready}
-use Rattle.volume.specs.checks.RefusalNumbers.{number_of, number_err, refusal_not_none}
+use Rattle.volume.specs.meaning.RefusalNumbers.{number_of}
+use Rattle.volume.specs.checks.RefusalNumbers.{number_err, refusal_not_none}
 use Rattle.volume.specs.declared.Zone.{Zone}
 use Rattle.volume.specs.declared.Condition.{Condition}
 use Rattle.volume.proofs.reading.read_zone.Goals as goal

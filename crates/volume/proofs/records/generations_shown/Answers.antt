@@ -1,10 +1,11 @@
-use Rattle.std.proofs.Common.{rules}
-use Rattle.volume.specs.checks.Records.{blank_look, zone_look, generations_shown}
-use Rattle.volume.proofs.Tabulated.{tabulated}
+use Rattle.std.proofs.Common.{ℕ, arith}
+use Rattle.volume.specs.checks.Records.{zone_look, generations_shown}
+use Rattle.volume.specs.laws.FilledArrays.{filled_turn, filled_end}
 use Rattle.volume.proofs.records.generations_shown.Goals as goal
+
+pub loop-z-preserved : goal.loop-z-preserved
+loop-z-preserved c = filled_turn (λ (y : ℕ). (zone_look c.args.look y).generation) 16 c.loop-z.z c.loop-z.generations (omega arith) c.loop-z.invariant
 
 pub returns : goal.returns
 unfolding generations_shown
-returns c =
-    let of_all = c.map.ensures.items in
-    tabulated (λ z. (zone_look c.args.look z).generation) 16 c.map.result of_all.long (λ i h. let one = of_all.at i blank_look 0 h in search rules)
+returns c = filled_end _ 16 _ _ (omega arith) c.loop-z.invariant

@@ -1,12 +1,15 @@
-use Rattle.std.proofs.Common.{rules}
+use Rattle.std.proofs.Common.{ℕ, arith, get_or}
 use Rattle.volume.specs.meaning.State.{pointer_in}
-use Rattle.volume.specs.meaning.CallContracts.{blank_record, record_at}
+use Rattle.volume.specs.meaning.CallContracts.{blank_record}
 use Rattle.volume.specs.checks.Records.{points_in}
-use Rattle.volume.proofs.Tabulated.{tabulated}
+use Rattle.volume.specs.laws.FilledArrays.{filled_turn, filled_end}
 use Rattle.volume.proofs.records.points_of.Goals as goal
+
+pub loop-z-preserved : goal.loop-z-preserved
+loop-z-preserved c =
+    rw c.pointer_of.ensures
+    (filled_turn (λ (y : ℕ). pointer_in (get_or c.args.state.zones y blank_record).condition) 16 c.loop-z.z c.loop-z.points (omega arith) c.loop-z.invariant)
 
 pub returns : goal.returns
 unfolding points_in
-returns c =
-    let of_all = c.map.ensures.items in
-    tabulated (λ z. pointer_in (record_at c.args.state z).condition) 16 c.map.result of_all.long (λ i h. let one = of_all.at i blank_record 0 h in search rules)
+returns c = filled_end _ 16 _ _ (omega arith) c.loop-z.invariant

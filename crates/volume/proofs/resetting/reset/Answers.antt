@@ -20,7 +20,8 @@ use Rattle.volume.specs.checks.ZoneChecks.{pointer_within}
 use Rattle.volume.specs.storing.Resetting.{reset_late_number, reset_full_in, reset_early, reset_8, reset_in_lem, reset_refusal, late_fresh}
 use Rattle.volume.specs.storing.ResetZone.{zone_now, reset_zone_on, reset_zone_on_lem}
 use Rattle.volume.specs.meaning.Calls.{reset_state}
-use Rattle.volume.specs.checks.RefusalNumbers.{refusal_number, refusal_not_none}
+use Rattle.volume.specs.meaning.RefusalNumbers.{refusal_number}
+use Rattle.volume.specs.checks.RefusalNumbers.{refusal_not_none}
 use Rattle.tables.specs.declared.Geometry.{Geometry}
 use mathlib.Core.Logic.{◌≢◌}
 use Rattle.volume.proofs.resetting.reset.Goals as goal

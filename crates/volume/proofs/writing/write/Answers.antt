@@ -22,7 +22,8 @@ use Rattle.volume.specs.laws.CallContracts.{storing_refused}
 use Rattle.volume.specs.checks.CheckLaws.{present_list, opening_is, tested, none_opening, opened_by}
 use Rattle.volume.specs.writing.WriteRun.{RunAsked, RunStated, Gives, write_asked_on}
 use Rattle.volume.specs.writing.Writing.{write_asked, run_of, run_now, write_number, number_opening, number_8, run_asked, run_stated, write_asked_on_lem}
-use Rattle.volume.specs.checks.RefusalNumbers.{refusal_number, refusal_not_none}
+use Rattle.volume.specs.meaning.RefusalNumbers.{refusal_number}
+use Rattle.volume.specs.checks.RefusalNumbers.{refusal_not_none}
 use Rattle.tables.specs.declared.Geometry.{Geometry}
 use Rattle.volume.proofs.writing.write.Goals as goal
 

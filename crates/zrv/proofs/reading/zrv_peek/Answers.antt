@@ -7,7 +7,8 @@ use Rattle.zrv.specs.meaning.EdgeCalls.{answered}
 use Rattle.zrv.specs.laws.Bytes.{filled}
 use Rattle.zrv.specs.laws.EdgeCalls.{Sized, input_passed, part_long, scratch_fits, refused, made, place_short, place_right, place_refused, place_made}
 use borrow.Author.Rules.{rules}
-use Rattle.volume.specs.checks.RefusalNumbers.{refusal_number, refusal_not_none}
+use Rattle.volume.specs.meaning.RefusalNumbers.{refusal_number}
+use Rattle.volume.specs.checks.RefusalNumbers.{refusal_not_none}
 use Rattle.zrv.proofs.reading.zrv_peek.Goals as goal
 
 pub returns-in-Err : goal.returns-in-Err

@@ -14,7 +14,8 @@ use Rattle.zrv.specs.meaning.EdgeCalls.{ranges, read_edge, Ranges, named_of, ans
 use Rattle.zrv.specs.laws.EdgeCalls.{part_long, refused, made}
 use Rattle.zrv.specs.laws.TablesRoundTrip.{table_long}
 use Rattle.zrv.specs.laws.ByRecord.{InputTaken, input_taken, record_in, record_taken, read_told}
-use Rattle.volume.specs.checks.RefusalNumbers.{number_of, refusal_number, refusal_not_none}
+use Rattle.volume.specs.meaning.RefusalNumbers.{number_of, refusal_number}
+use Rattle.volume.specs.checks.RefusalNumbers.{refusal_not_none}
 use Rattle.std.specs.Prelude.{Result, ⊤}
 use Rattle.tables.specs.declared.Geometry.{Geometry}
 use Rattle.volume.specs.declared.Refusal.{Refusal}

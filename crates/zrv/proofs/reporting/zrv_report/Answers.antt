@@ -6,7 +6,8 @@ use Rattle.zrv.specs.meaning.EdgeCalls.{descriptors_in}
 use Rattle.zrv.specs.laws.EdgeCalls.{refused, made}
 use Rattle.zrv.specs.laws.Report.{Reportable, report_passed, number_passed, number_room, report_made}
 use borrow.Author.Rules.{rules}
-use Rattle.volume.specs.checks.RefusalNumbers.{refusal_number, refusal_not_none}
+use Rattle.volume.specs.meaning.RefusalNumbers.{refusal_number}
+use Rattle.volume.specs.checks.RefusalNumbers.{refusal_not_none}
 use mathlib.Core.List.{List}
 use Rattle.tables.specs.declared.Geometry.{Geometry}
 use Rattle.volume.specs.declared.State.{State}

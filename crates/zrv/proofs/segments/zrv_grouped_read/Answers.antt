@@ -1,7 +1,7 @@
 use Rattle.std.proofs.Common.{◌∙◌, ap, ap₂, refl, sym}
 use Rattle.std.specs.Prelude.{◌≡◌, ℕ, Result, ⊤}
 use Rattle.grouped.specs.declared.Refusal.{Refusal}
-use Rattle.grouped.specs.reading.RefusalNumbers.{number_of}
+use Rattle.grouped.specs.meaning.RefusalNumbers.{number_of}
 use Rattle.zrv.specs.meaning.EdgeCalls.{answered}
 use Rattle.zrv.proofs.segments.zrv_grouped_read.Goals as goal
 

@@ -5,7 +5,8 @@ use Rattle.volume.specs.declared.Outcome.{Outcome}
 use Rattle.zrv.specs.meaning.EdgeCalls.{ranges}
 use Rattle.zrv.specs.laws.EdgeCalls.{Sized, sizes_passed, part_long, scratch_fits, refused, made, all_stored, placed}
 use borrow.Author.Rules.{rules}
-use Rattle.volume.specs.checks.RefusalNumbers.{refusal_number, refusal_not_none}
+use Rattle.volume.specs.meaning.RefusalNumbers.{refusal_number}
+use Rattle.volume.specs.checks.RefusalNumbers.{refusal_not_none}
 use Rattle.zrv.proofs.starting.zrv_mount.Goals as goal
 
 pub returns-in-Err : goal.returns-in-Err

@@ -4,7 +4,8 @@ use lib.ListN.{length}
 use Rattle.zrv.specs.meaning.EdgeCalls.{ranges}
 use Rattle.zrv.specs.laws.EdgeCalls.{Sized, input_passed, part_long, scratch_fits, refused, made, flushes_stored}
 use borrow.Author.Rules.{rules}
-use Rattle.volume.specs.checks.RefusalNumbers.{refusal_number, refusal_not_none}
+use Rattle.volume.specs.meaning.RefusalNumbers.{refusal_number}
+use Rattle.volume.specs.checks.RefusalNumbers.{refusal_not_none}
 use Rattle.zrv.proofs.writing.zrv_flush.Goals as goal
 
 pub returns-in-Err : goal.returns-in-Err

@@ -8,7 +8,8 @@ use Rattle.zrv.specs.laws.EdgeCalls.{refused, made}
 use Rattle.zrv.specs.declared.records.WriteCall.{WriteCall}
 use Rattle.zrv.specs.meaning.EdgeCalls.{Ranges, ranges, Answered, write_of, write_edge, named_of, input_number}
 use Rattle.zrv.specs.laws.ByRecord.{InputTaken, input_taken, whole_write}
-use Rattle.volume.specs.checks.RefusalNumbers.{refusal_number, refusal_not_none}
+use Rattle.volume.specs.meaning.RefusalNumbers.{refusal_number}
+use Rattle.volume.specs.checks.RefusalNumbers.{refusal_not_none}
 use Prim.Native.Nat.{ℕ}
 use Rattle.tables.specs.declared.Geometry.{Geometry}
 use Rattle.zrv.proofs.writing.zrv_write.Goals as goal

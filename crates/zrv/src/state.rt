@@ -153,7 +153,8 @@ fn shares_from(bytes: &[u8], k: usize) -> [u32; MAX_SHARES]
     shares
 }
 
-// The state that the bytes hold.
+// The state that the bytes hold. Not inlined: what it holds on the way would stay on the stack throughout each call for C.
+#[inline(never)]
 pub fn state_from(g: Geometry, bytes: &[u8]) -> State
     requires valid { Valid g }
     requires bytes_len { length bytes.now ≡ state_bytes }
